@@ -120,6 +120,12 @@ class Officer(Player):
         for field, text in fields.items():
             self.type(f"{form}-{field}", text)
 
+    def send(self):
+        """Leaves a form's last field by Enter, which sends nothing, and presses the button that this reaches."""
+        self.press("Enter")
+        self.until("document.activeElement.type === 'submit' && !document.getElementById('ask').open")
+        self.press("Enter")
+
     def drop(self, place, **files):
         """Drops files on an element."""
         given = json.dumps([[name.replace("_", "-") + ".csv", "".join(f"{line}\n" for line in lines)] for name, lines in files.items()])

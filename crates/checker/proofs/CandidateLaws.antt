@@ -1,4 +1,4 @@
--- The candidates of a ward read back from the names of all numbers and the withdrawn numbers.
+-- The candidates of a ward, read back from the names for all numbers and the withdrawn numbers.
 use Rattle.std.proofs.Common.{◌≡◌, ◌∙◌, ℕ, zero, suc, ◌+◌, ◌<◌, ◌≤◌, ◌||◌, nat_eq, List, [], ◌∷◌, Bool, true, false, map, refl, sym, ap, subst, arith, Some, None, is_none}
 use Rattle.std.specs.Prelude.{◌==◌, if◌then◌else◌}
 use Rattle.std.specs.List.{filter, list_any, range_with_len}
@@ -23,7 +23,7 @@ here_it_is : (b : Bool) (c a : ℕ) (xs : List ℕ) → c ≡ a → list_any (na
 here_it_is true c a xs same none = ap (λ t. t || list_any (nat_eq c) xs) (eq-eqb c a same)
 here_it_is false c a xs same none = none
 
--- a number in a range is among those that pass a test if and only if it passes
+-- a number in a range is among those that pass a test if and only if it passes the test
 pub any_range : (p : ℕ → Bool) (a n c : ℕ) → a ≤ c → c < a + n → list_any (nat_eq c) (filter p (range_with_len a n)) ≡ p c
 any_range p a zero c low high = absurd (omega arith)
 any_range p a (suc n) c low high = by (nat_eq c a) refl (λ differ. any_range p (a + 1) n c (omega (arith, differ)) (omega arith))
@@ -36,7 +36,7 @@ any_range p a (suc n) c low high = by (nat_eq c a) refl (λ differ. any_range p 
 
 -- ---- the candidates of a ward, by number
 
--- ascending numbers, at least a given one and below an end
+-- ascending numbers, at least a given one and below a given end
 abbrev pub Rise : ℕ → ℕ → List (ℕ × Text) → Type 0
 Rise low end [] = Unit {0}
 Rise low end (x ∷ xs) = (low ≤ x.0) × (x.0 < end) × Rise (x.0 + 1) end xs
@@ -46,7 +46,7 @@ unnamed low end [] c rise below = refl
 unnamed low end (x ∷ xs) c rise below =
     rw (ne_eqb x.0 c (λ e. omega (arith, e, rise.0))) (unnamed (x.0 + 1) end xs c rise.2 (omega (arith, rise.0)))
 
--- the candidates of a ward, starting with a given number, rebuilt from the names of all numbers in order
+-- the candidates of a ward, starting with a given number, rebuilt from the names for all numbers in order
 module _ (candidates : List (ℕ × Text)) (withdrawn : List ℕ) where
   pub rebuilt : (n k end : ℕ) (left : List (ℕ × Text)) → end ≡ k + n → Rise k end left → ((c : ℕ) → k ≤ c → name_at candidates c ≡ name_at left c)
       → ((c : ℕ) → k ≤ c → c < end → list_any (nat_eq c) withdrawn ≡ is_none (name_at candidates c)) → candidates_from withdrawn k (map (name_of candidates) (range_with_len k n)) ≡ left

@@ -1,4 +1,4 @@
--- Our own comments read back.
+-- Our own comments, read back.
 use Rattle.std.proofs.Common.{◌≡◌, ◌∙◌, ℕ, ◌^◌, ◌<◌, ◌≤◌, List, [], ◌∷◌, ◌++◌, true, false, length, refl, sym, ap, subst, arith, append_assoc, append-nil, Ok, Some, None}
 use Rattle.std.specs.Prelude.{◌==◌, codes, Option}
 use Rattle.std.specs.Fmt.{decimal}

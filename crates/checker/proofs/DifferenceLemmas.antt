@@ -8,19 +8,19 @@ use Rattle.std.proofs.lemmas.List.{at_drop_more, drop_at, get_or_at, take_at}
 use Rattle.std.proofs.lemmas.Str.{IsCharBoundary-after_ascii, IsUtf8-drop, IsUtf8-nil, IsUtf8-take}
 use Rattle.checker.specs.Differences.{behind_lines, common, first_line}
 
--- one more line is skipped
+-- another line is skipped
 pub line_passed : (left : ℕ) (text : List ℕ) (i : ℕ) → (left ≡ 0 → ⊥) → i < length text → get_or text i 0 ≡ 10 → behind_lines left (drop i text) ≡ behind_lines (left - 1) (drop (i + 1) text)
 line_passed zero text i some here is = absurd (some refl)
 line_passed (suc left) text i some here is =
     let less : suc left - 1 ≡ left = omega arith in
     at_drop_more (behind_lines (suc left)) text i 0 here ∙ rw (eq-eqb _ _ is, less) refl
 
--- one more byte of that line is skipped
+-- another byte of that line is skipped
 pub byte_passed : (left : ℕ) (text : List ℕ) (i : ℕ) → (left ≡ 0 → ⊥) → i < length text → (get_or text i 0 ≡ 10 → ⊥) → behind_lines left (drop i text) ≡ behind_lines left (drop (i + 1) text)
 byte_passed zero text i some here other = absurd (some refl)
 byte_passed (suc left) text i some here other = at_drop_more (behind_lines (suc left)) text i 0 here ∙ rw (ne_eqb _ _ other) refl
 
--- nothing comes after the end
+-- nothing follows the end
 pub none_behind : (left : ℕ) → behind_lines left [] ≡ []
 none_behind zero = refl
 none_behind (suc left) = refl
@@ -40,7 +40,7 @@ record Ended (text : List ℕ) : Type 0 where
   first : first_line text ≡ front ++ 10 ∷ []
   behind : (n : ℕ) → behind_lines (suc n) text ≡ behind_lines n rest
 
--- or without one
+-- a text without a terminated line
 record Unended (text : List ℕ) : Type 0 where
   first : first_line text ≡ text
   behind : (n : ℕ) → behind_lines (suc n) text ≡ []

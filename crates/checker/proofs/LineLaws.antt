@@ -1,4 +1,4 @@
--- Texts that are split into exactly the pieces from which they were joined, and lines that are read in order.
+-- Joined texts that split into exactly their original pieces, and lines that are read in order.
 use Rattle.std.proofs.Common.{◌≡◌, ◌∙◌, ℕ, ◌+◌, ◌<◌, ◌≤◌, ◌&&◌, ◌||◌, nat_le, Bool, true, false, List, [], ◌∷◌, ◌++◌, length, refl, sym, ap, arith, append_assoc, append-nil, Ok}
 use Rattle.std.specs.Prelude.{◌==◌}
 use Rattle.std.specs.List.{flat_map, list_all, list_any}
@@ -36,7 +36,7 @@ cut_piece s begun (x ∷ body) b rest none parted =
     let part = or_none (parts s x) (list_any (parts s) body) none in
     rw part.0 (cut_piece s (begun ++ x ∷ []) body b rest part.1 parted ∙ ap (λ t. piece s t ++ pieces_of s [] rest) (append_assoc begun (x ∷ []) body))
 
--- or at the end
+-- or at the end of the text
 pub last_piece : (s : Separator) (begun body : Text) → list_any (parts s) body ≡ false → pieces_of s begun body ≡ piece s (begun ++ body)
 last_piece s begun [] none = ap (piece s) (sym (append-nil begun))
 last_piece s begun (x ∷ body) none =
@@ -66,7 +66,7 @@ figure_bounds b h =
     let part = and_parts (nat_le 45 b) (nat_le b 57) h in
     (leb-true 45 b part.0, leb-true b 57 part.1)
 
--- such a byte differs from every byte outside that range
+-- a byte in that range differs from every byte outside it
 pub figure_other : (b n : ℕ) → is_figure b ≡ true → (45 ≤ n → n ≤ 57 → ⊥) → (b == n) ≡ false
 figure_other b n h out =
     let bounds = figure_bounds b h in
@@ -75,12 +75,12 @@ figure_other b n h out =
 pub figure_unblank : (b : ℕ) → is_figure b ≡ true → is_blank b ≡ false
 figure_unblank b h = or_both _ _ (figure_other b 32 h (λ l m. omega arith)) (or_both _ _ (figure_other b 9 h (λ l m. omega arith)) (figure_other b 13 h (λ l m. omega arith)))
 
--- a word that consists of such bytes
+-- a word that consists of bytes in that range
 pub record IsFigures (w : Text) : Type 0 where
   pub all : list_all is_figure w ≡ true
   pub some : 0 < length w
 
--- such a byte, or a space
+-- a byte in that range, or a space
 abbrev pub is_plain : ℕ → Bool
 is_plain b = is_figure b || (b == 32)
 

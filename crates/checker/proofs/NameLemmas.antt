@@ -27,6 +27,6 @@ ascii_of (b ∷ text) all =
     let part = and_parts (nat_lt b 128) (list_all (λ x. nat_lt x 128) text) all in
     IsAscii-cons b text (ltb-true b 128 part.0) (ascii_of text part.1)
 
--- bytes below 128 are UTF-8
+-- a text of bytes below 128 is UTF-8
 pub ascii_text : (text : List ℕ) → list_all (λ b. nat_lt b 128) text ≡ true → is_utf8 text ≡ true
 ascii_text text all = is_utf8-from_IsUtf8 text (IsUtf8-from_ascii text (ascii_of text all))

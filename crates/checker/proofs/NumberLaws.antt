@@ -71,7 +71,7 @@ some_digits most (d ∷ ds) some = refl
 pub number_back : (most n : ℕ) → n < 2 ^ 64 → n ≤ most → number_in most (decimal n) ≡ Ok n
 number_back most n small few = some_digits most (decimal n) (decimal_figures n small).some ∙ read_from_digits n small most few
 
--- and so does a candidate number
+-- a candidate number reads back
 pub candidate_back : (highest c : ℕ) → 1 ≤ c → c ≤ highest → highest ≤ 30 → candidate_in highest (decimal c) ≡ Ok c
 candidate_back highest c some few bound =
     rw (number_back 255 c (omega arith) (omega arith), ne_eqb c 0 (λ e. omega (arith, e)), le-ltb highest c few) refl

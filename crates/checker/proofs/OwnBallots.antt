@@ -24,7 +24,7 @@ told_of_own P ward bundles lots back reading understood told =
     subst (λ w. P w bundles lots) back.ward_is (subst (λ bs. P (ward_told back.reading) bs lots) back.bundles_are
     (subst (λ ls. P (ward_told back.reading) back.reading.papers.bundles ls) back.lots_are own))
 
--- so the result for a text is the same
+-- so the result of checking a text is the same
 pub own_check : (ward : SheetEntry) (bundles : List Bundle) (lots : List (ℕ × ℕ)) → CanBeReadBack ward bundles lots → (text : List ℕ) (checked : Checked) →
     IsChecked (ballots ward bundles lots) text checked → IsWardCheck ward.poll ward bundles lots text checked
 own_check ward bundles lots can text checked is =
@@ -39,7 +39,7 @@ memory_so : (poll : Option Poll) (ward : SheetEntry) (bundles : List Bundle) (lo
 memory_so None ward bundles lots = refl
 memory_so (Some poll) ward bundles lots = tt
 
--- and a problem is one of the count
+-- and a problem is a problem of the count
 pub own_problem : (ward : SheetEntry) (bundles : List Bundle) (lots : List (ℕ × ℕ)) → CanBeReadBack ward bundles lots → (why : Problem) → IsProblem (ballots ward bundles lots) why →
     IsWardProblem ward.poll ward bundles lots why
 own_problem ward bundles lots can (problem.Line line flaw) is = absurd (cc (sym is ∙ (ballots_back ward bundles lots can).understood))

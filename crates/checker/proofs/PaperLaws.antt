@@ -57,7 +57,7 @@ apart_more before x (c ∷ list) apart none = (
     differ : c ≡ x → ⊥
     differ e = absurd (false≢true (sym parts.0 ∙ eq-eqb c x e))
 
--- the words for some preferences, followed by 0
+-- the words for the given preferences, followed by 0
 abbrev pub rank_words : List ℕ → List Text
 rank_words list = map decimal list ++ codes "0" ∷ []
 
@@ -114,7 +114,7 @@ pub among_papers : (first : Bool) (here : ReaderEntry) (text : Text) (words : Li
 among_papers true here text words are none = rw (are, none) refl
 among_papers false here text words are none = rw are refl
 
--- papers with one list of preferences, as a file may contain them
+-- papers with the same list of preferences, as a file may contain them
 pub record CanStand (highest : ℕ) (withdrawn : List ℕ) (list : List ℕ) (n : ℕ) : Type 0 where
   pub some : 1 ≤ n
   pub few : n ≤ max_papers

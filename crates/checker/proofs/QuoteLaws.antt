@@ -66,7 +66,7 @@ name_reads papers names remarks name is =
     subst (λ t. Reads here (t ++ 10 ∷ []) end) (sym body)
     (reads-line here (quoted name) end (quoted_unended name is.unended) (rw (name_back name is) refl))
 
--- ---- the names of all numbers
+-- ---- the names for all numbers
 
 module _ (candidates : List (ℕ × Text)) where
   abbrev pub name_of : ℕ → Text
@@ -106,7 +106,7 @@ names_read candidates papers remarks ward before k (suc n) all few =
     (append_assoc before (name ∷ []) (map (name_of candidates) (range_with_len (k + 1) n)))
     (reads-then here (name_line candidates k) mid (flat_map (name_line candidates) (range_with_len (k + 1) n)) end one others)
 
--- the ward's name follows them
+-- the ward's name follows the candidates' names
 pub ward_name_reads : (papers : PapersEntry) (remarks : Remarks) (names : List Text) (name : Text) → IsName name → papers.highest ≤ length names
     → Reads (state place.CandidateNames papers (record { names = names; ward = [] }) remarks) (line (quoted name ∷ [])) (state place.End papers (record { names = names; ward = name }) remarks)
 ward_name_reads papers remarks names name is all =

@@ -28,7 +28,7 @@ or_both a b h k = rw (h, k) refl
 other : (a b : ℕ) → (a == b) ≡ false → (b == a) ≡ false
 other a b h = ne_eqb b a (λ e. eqb-false a b h (sym e))
 
--- a ranking with one more candidate at the end, who isn't in it yet
+-- a ranking, extended by a candidate who isn't in it yet
 pub ranking_more : (xs : List ℕ) (c : ℕ) → IsRanking xs → 1 ≤ c → c ≤ max_candidates → list_any (λ d. d == c) xs ≡ false → IsRanking (xs ++ c ∷ [])
 ranking_more [] c rank some few none = (some, few, refl, tt)
 ranking_more (x ∷ xs) c rank some few none =
@@ -54,7 +54,7 @@ pub ranking_kept : (p : ℕ → Bool) (xs : List ℕ) → IsRanking xs → IsRan
 ranking_kept p [] rank = tt
 ranking_kept p (x ∷ xs) rank = kept_ranking (p x) x (filter p xs) rank.0 rank.1 (none_kept p x xs rank.2) (ranking_kept p xs rank.3)
 
--- and so do the candidates who haven't withdrawn
+-- the candidates of a ranking who haven't withdrawn form a ranking
 pub ranking_without : (withdrawn named : List ℕ) → IsRanking named → IsRanking (without withdrawn named)
 ranking_without withdrawn named rank = ranking_kept (λ c. not (list_any (nat_eq c) withdrawn)) named rank
 
@@ -63,7 +63,7 @@ pub named_twice : (highest : ℕ) (ranks : Ranked) (word : List ℕ) (c : ℕ) �
     Err CandidateTwice ≡ with_candidate highest ranks word
 named_twice highest ranks word c is named = rw (is, named) refl
 
--- if nobody has withdrawn, all remain
+-- if nobody has withdrawn, all candidates remain
 all_kept : (named : List ℕ) → filter (λ c. true) named ≡ named
 all_kept [] = refl
 all_kept (c ∷ named) = ap (λ (xs : List ℕ). c ∷ xs) (all_kept named)

@@ -1,4 +1,4 @@
--- The ballots of a ward read back.
+-- The ballots of a ward, read back.
 use Rattle.std.proofs.Common.{◌≡◌, ◌∙◌, ℕ, zero, suc, ◌+◌, ◌-◌, ◌<◌, ◌≤◌, ◌||◌, nat_eq, Bool, true, false, List, [], ◌∷◌, ◌++◌, length, map, refl, sym, ap, subst, arith, append_assoc}
 use Rattle.std.proofs.Common.{append-nil, length-append, Ok, Some, None, is_none}
 use Rattle.std.specs.Prelude.{◌==◌, codes, if◌then◌else◌, Option, option_map, replicate, slice_get}
@@ -103,7 +103,7 @@ within : (b : Bool) (c h : ℕ) (x : ℕ × Text) → nat_eq c x.0 ≡ b → (1 
 within true c h x e here rest = subst (λ n. (1 ≤ n) × (n ≤ h)) (sym (eqb-true c x.0 e)) here
 within false c h x e here rest = rest refl
 
--- and a number up to the highest
+-- a candidate has a number up to the highest one
 has_number : (low h c : ℕ) (candidates : List (ℕ × Text)) → Ascends low (map (λ (candidate : ℕ × Text). candidate.0) candidates) → AllByRecursion (λ (x : ℕ × Text). x.0 ≤ h) candidates
     → list_any (nat_eq c) (map (λ (candidate : ℕ × Text). candidate.0) candidates) ≡ true → (1 ≤ c) × (c ≤ h)
 has_number low h c [] up all found = absurd (false≢true found)
@@ -232,7 +232,7 @@ ballots_unmarked ward bundles lots few =
     let e = front_marks (papers_text ward bundles) (name_lines ward) d.0 d.1 in
     (front_marks (papers_text ward bundles ++ name_lines ward) (comments ward lots) e.0 e.1).1
 
--- ---- all of it
+-- ---- the whole file
 
 module _ (ward : SheetEntry) (bundles : List Bundle) (lots : List (ℕ × ℕ)) where
   abbrev number : ℕ

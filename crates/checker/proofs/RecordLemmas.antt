@@ -4,7 +4,7 @@ use Rattle.std.specs.List.{range_with_len}
 use Rattle.paper.specs.Columns.{IsCandidateSet, max_candidates}
 use Rattle.paper.proofs.ColumnSets.{Ascends, columns_from_ascends}
 
--- one more number
+-- another number
 range_suc : (a n : ℕ) → range_with_len a (suc n) ≡ range_with_len a n ++ (a + n) ∷ []
 range_suc a zero = ap (λ (k : ℕ). k ∷ []) (sym (add-zero a))
 range_suc a (suc n) =

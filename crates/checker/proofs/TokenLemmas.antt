@@ -4,7 +4,7 @@ use Rattle.std.proofs.lemmas.List.{get_or-drop, length-drop, take_more, at_drop_
 use Rattle.checker.specs.Tokens.{parts, pieces_of}
 use Rattle.checker.specs.declared.tokens.Separator.{Separator}
 
--- one more byte of the current piece
+-- another byte of the current piece
 pub piece_more : (text : List ℕ) (start i : ℕ) → start ≤ i → i < length text → take (i + 1 - start) (drop start text) ≡ take (i - start) (drop start text) ++ get_or text i 0 ∷ []
 piece_more text start i within here =
     let more : i + 1 - start ≡ i - start + 1 = omega arith in

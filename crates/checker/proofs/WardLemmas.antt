@@ -23,20 +23,20 @@ candidates_ascend withdrawn k [] few = tt
 candidates_ascend withdrawn k (name ∷ names) few =
     one_more (list_any (nat_eq (k + 1)) withdrawn) k name (candidates_from withdrawn (k + 1 + 1) names) (omega arith) (candidates_ascend withdrawn (k + 1) names (omega arith))
 
--- the candidates shown have the same numbers
+-- the candidates on the sheet have the same numbers
 pub shown_numbers : (candidates : List (ℕ × String Global)) →
     map (λ (candidate : ℕ × List ℕ). candidate.0) (map (λ candidate. (candidate.0, string_bytes candidate.1)) candidates) ≡ map (λ candidate. candidate.0) candidates
 shown_numbers [] = refl
 shown_numbers (candidate ∷ candidates) = ap (λ numbers. candidate.0 ∷ numbers) (shown_numbers candidates)
 
--- their numbers are a set
+-- the candidates' numbers are a set
 pub candidates_set : (withdrawn : List ℕ) (names : List (List ℕ)) (candidates : List (ℕ × String Global)) → length names ≤ max_candidates
     → map (λ candidate. (candidate.0, string_bytes candidate.1)) candidates ≡ candidates_of withdrawn names → IsCandidateSet (map (λ candidate. candidate.0) candidates)
 candidates_set withdrawn names candidates few is =
     let numbers = sym (ap (map (λ (candidate : ℕ × List ℕ). candidate.0)) is) ∙ shown_numbers candidates in
     subst IsCandidateSet numbers (columns_from_ascends 0 _ (candidates_ascend withdrawn 0 names (omega arith)))
 
--- ---- the set of their numbers, one by one
+-- ---- the set of the candidates' numbers, one by one
 
 abbrev numbers_in : List (ℕ × String Global) → List ℕ
 numbers_in candidates = map (λ candidate. candidate.0) candidates
@@ -51,7 +51,7 @@ pub number_is : (candidates : List (ℕ × String Global)) (i : ℕ) (candidate 
 number_is candidates i candidate set here is =
     subst IsColumn (sym (ap (λ (c : ℕ × String Global). c.0) is)) (IsColumn-candidate (λ (c : ℕ × String Global). c.0) candidates i candidate here set)
 
--- one more of the numbers
+-- another one of the numbers
 pub number_more : (candidates : List (ℕ × String Global)) (i : ℕ) (candidate : ℕ × String Global) (columns more : List ℕ) → IsCandidateSet (numbers_in candidates) → i < length candidates →
     candidate ≡ get_or candidates i candidate
     → columns ≡ take i (numbers_in candidates) → (IsCandidateSet (columns ++ candidate.0 ∷ []) → more ≡ columns ++ candidate.0 ∷ []) → more ≡ take (i + 1) (numbers_in candidates)
@@ -62,7 +62,7 @@ number_more candidates i candidate columns more set here is so last =
     take_more (numbers_in candidates) i 0 within ∙ (ap (λ n. take i (numbers_in candidates) ++ n ∷ []) number ∙ ap (λ ns. ns ++ candidate.0 ∷ []) (sym so)) in
     last (subst IsCandidateSet next (columns-take (i + 1) (numbers_in candidates) set)) ∙ sym next
 
--- and all of them
+-- all of the numbers
 pub numbers_done : (candidates : List (ℕ × String Global)) (i : ℕ) (columns : List ℕ) → columns ≡ take i (numbers_in candidates) → length candidates ≤ i
     → columns ≡ map (λ (candidate : ℕ × List ℕ). candidate.0) (map (λ candidate. (candidate.0, string_bytes candidate.1)) candidates)
 numbers_done candidates i columns so all =

@@ -128,7 +128,7 @@ ours_behind_name = refl
 open_name : name_in (codes "\"Ann\\\"") ≡ Err flaw.OpenQuote
 open_name = refl
 
--- the content of some lines
+-- the content of the given lines
 abbrev told_by : ReaderEntry → List (List ℕ) → Result ReaderEntry BallotsFlaw
 told_by reading [] = Ok reading
 told_by reading (line ∷ lines) = and_then (with_line reading line) (λ more. told_by more lines)

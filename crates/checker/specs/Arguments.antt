@@ -28,7 +28,7 @@ pub data Request : Type 0 where
   count : CountEntry → Request
   misread : WordsFlaw → Request
 
--- an argument that requests help
+-- whether an argument requests help
 abbrev pub is_help : Text → Bool
 is_help word = pointwise nat_eq word (codes "--help") || pointwise nat_eq word (codes "-h")
 
@@ -52,7 +52,7 @@ count_told (Err flaw) = misread flaw
 abbrev pub count_asked : List Text → Request
 count_asked words = if is_help_alone words then count_help else count_told (count_request words)
 
--- an argument that requests a count
+-- whether an argument requests a count
 abbrev pub is_count : Text → Bool
 is_count word = pointwise nat_eq word (codes "--count")
 
@@ -60,7 +60,7 @@ abbrev pub asked : List Text → Request
 asked [] = nothing
 asked (word ∷ words) = if is_count word then count_asked words else check_asked (word ∷ words)
 
--- the program's arguments, or the reason why they can't be read
+-- the outcome of reading the program's arguments: the arguments, or the reason why they can't be read
 abbrev pub words_told : {V : Type 0} → (V → List Text) → Result V ArgumentsFault → Result (List Text) ArgumentsFault
 words_told texts (Ok words) = Ok (texts words)
 words_told texts (Err fault) = Err fault
@@ -112,7 +112,7 @@ IsAnswer held count_help told = told ≡ report.CountHelp
 IsAnswer held (count asked) told = IsCountFileOutcome held asked told
 IsAnswer held (misread flaw) told = (told ≡ report.Misread flaw) ⊎ (told ≡ report.Hindered problem.Memory)
 
--- the outcome of the program's arguments, or of the failure to read them
+-- the outcome for the program's arguments, or for the failure to read them
 abbrev pub IsOutcome : InputFiles → Result (List Text) ArgumentsFault → Report → Type 0
 IsOutcome held (Ok words) told = IsAnswer held (asked words) told
 IsOutcome held (Err words.NotUtf8) told = told ≡ report.NotUtf8

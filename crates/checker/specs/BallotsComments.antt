@@ -11,7 +11,7 @@ use Rattle.checker.specs.declared.tokens.Separator.TheVariants.{Mark}
 use Rattle.checker.specs.declared.problem.BallotsFlaw.{BallotsFlaw}
 use Rattle.checker.specs.declared.problem.BallotsFlaw.TheVariants.{Lot, Rejected, Twice, Ward}
 
--- the content of our comments: the number of the ward, the number of rejected papers for each code, and the stage and the candidate of each lot
+-- the content of our own comments: the number of the ward, the number of rejected papers for each code, and the stage and the candidate of each lot
 pub record Remarks : Type 0 where
   pub ward : Option ℕ
   pub rejected : Option (List ℕ)
@@ -33,7 +33,7 @@ small_in word = understood (number_in 255 word)
 abbrev pub count_in : Text → Option ℕ
 count_in word = understood (number_in 4294967295 word)
 
--- `7`: the number of a ward
+-- `7`: the ward number
 abbrev pub ward_in : List Text → Option ℕ
 ward_in [] = None
 ward_in (number ∷ []) = small_in number
@@ -59,7 +59,7 @@ codes_in (code ∷ others) words = option_and_then (λ first. option_and_then (�
 abbrev pub rejected_counts_in : List Text → Option (List ℕ)
 rejected_counts_in words = codes_in (codes "1" ∷ codes "2" ∷ codes "3" ∷ codes "4" ∷ codes "5" ∷ []) words
 
--- `at stage 3: 2`: the candidate drawn by a lot
+-- `at stage 3: 2`: the candidate drawn by lot
 abbrev pub lot_in : List Text → Option (ℕ × ℕ)
 lot_in [] = None
 lot_in (at ∷ []) = None
@@ -93,7 +93,7 @@ with_lot remarks (Some lot) =
 abbrev pub with_other : Remarks → Text → Result Remarks BallotsFlaw
 with_other remarks line = and_then (skip_foreign line) (λ passed. Ok remarks)
 
--- the remarks so far, with a comment line of this kind, given the words after its kind
+-- the remarks so far, with a comment line of the given kind, given the words after its kind
 abbrev pub with_kind : Remarks → Text → Text → List Text → Result Remarks BallotsFlaw
 with_kind remarks line kind words =
     if is_word (codes "Ward") kind then with_ward remarks (ward_in words) else (
@@ -106,6 +106,6 @@ with_words remarks line [] = with_other remarks line
 with_words remarks line (sign ∷ []) = with_other remarks line
 with_words remarks line (sign ∷ kind ∷ words) = if is_word (codes "#") sign then with_kind remarks line kind words else with_other remarks line
 
--- the remarks so far, with a comment on a line of its own, whose words are also separated by colons and commas
+-- the remarks so far, with a comment on a separate line, whose words are also separated by colons and commas
 abbrev pub with_comment : Remarks → Text → Result Remarks BallotsFlaw
 with_comment remarks line = with_words remarks line (pieces_of Mark [] line)

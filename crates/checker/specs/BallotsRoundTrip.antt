@@ -24,7 +24,7 @@ pub record IsName (name : Text) : Type 0 where
   pub text : is_utf8 name ≡ true
   pub unended : list_any (λ b. b == 10) name ≡ false
 
--- lots of stages and candidates that each fit in one byte
+-- lots whose stages and candidates each fit in one byte
 abbrev pub AreSmall : List (ℕ × ℕ) → Type 0
 AreSmall lots = AllByRecursion (λ (lot : ℕ × ℕ). (lot.0 ≤ 255) × (lot.1 ≤ 255)) lots
 
@@ -38,7 +38,7 @@ pub record AreCodes (rejected : List ℕ) : Type 0 where
   pub five : length rejected ≡ 5
   pub fit : AllByRecursion (λ n. n ≤ 4294967295) rejected
 
--- the poll of a ward with these bundles: an uncontested ward has no bundles, and no more candidates than seats
+-- the poll of a ward with the given bundles: an uncontested ward has no bundles, and no more candidates than seats
 abbrev pub IsPollOf : Option Poll → List Bundle → ℕ → ℕ → Type 0
 IsPollOf None bundles candidates seats = (bundles ≡ []) × (candidates ≤ seats)
 IsPollOf (Some poll) bundles candidates seats = (poll.valid ≡ length (papers_of bundles)) × AreCodes poll.rejected
@@ -58,7 +58,7 @@ pub record CanBeReadBack (ward : SheetEntry) (bundles : List Bundle) (lots : Lis
   pub lots_small : AreSmall lots
   pub lots_once : AreOnce lots
 
--- its ballots read back as exactly that ward, its bundles and its lots
+-- the ballots of a ward read back as exactly that ward, its bundles and its lots
 pub record IsReadBack (ward : SheetEntry) (bundles : List Bundle) (lots : List (ℕ × ℕ)) : Type 0 where
   pub reading : ReaderEntry
   pub understood : read (ballots ward bundles lots) ≡ Ok reading
@@ -76,7 +76,7 @@ AreCheckedAsTold =
     (ward : SheetEntry) (bundles : List Bundle) (lots : List (ℕ × ℕ)) → CanBeReadBack ward bundles lots →
     (text : Text) (checked : Checked) → IsChecked (ballots ward bundles lots) text checked → IsWardCheck ward.poll ward bundles lots text checked
 
--- a problem of that check is one of the ward's count
+-- a problem of that check is a problem of the ward's count
 abbrev pub AreHinderedAsTold : Type 0
 AreHinderedAsTold =
     (ward : SheetEntry) (bundles : List Bundle) (lots : List (ℕ × ℕ)) → CanBeReadBack ward bundles lots →

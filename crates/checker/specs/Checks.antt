@@ -25,7 +25,7 @@ use Rattle.checker.specs.declared.differences.Checked.{Checked}
 use Rattle.checker.specs.declared.problem.Problem.{Problem}
 use Rattle.checker.specs.declared.problem.Problem.TheVariants as problem
 
--- the whole count of a contest with the recorded lots, which is the only one, and the reason why it ends
+-- the whole count of a contest with the recorded lots, which is the only count, and the reason why it ends
 pub record EndsAt (contest : Contest) (lots : List (ℕ × ℕ)) (stages : List Stage) (why : CountEnd) : Type 0 where
   pub whole : IsWholeCount contest lots (reverse stages)
   pub ended : end_after contest lots (reverse stages) ≡ Some why
@@ -58,7 +58,7 @@ problem_of end.Finished = None
 problem_of (end.LotNeeded stage among) = Some (problem.LotNeeded stage among)
 problem_of (end.LotNotAmong stage) = Some (problem.LotNotAmong stage)
 
--- the result of comparing a text with the sheet and the declaration of a contested ward: its papers make a contest, and the count is finished
+-- the result of comparing a text with the sheet and the declaration of a contested ward: its papers form a contest, and the count is finished
 pub record IsCountedCheck (ward : SheetEntry) (bundles : List Bundle) (lots : List (ℕ × ℕ)) (text : Text) (checked : Checked) : Type 0 where
   pub contest : IsContest (contest_in ward bundles)
   pub stages : List Stage
@@ -66,7 +66,7 @@ pub record IsCountedCheck (ward : SheetEntry) (bundles : List Bundle) (lots : Li
   pub drawn : undrawn (contest_in ward bundles) lots ≡ None
   pub compared : IsComparison text (sheet ward stages) (declaration ward (elected_after (contest_in ward bundles) (reverse stages))) checked
 
--- the same for any ward, given its poll: an uncontested ward has no stages, and all its candidates are elected
+-- the same result for any ward, given its poll: an uncontested ward has no stages, and all its candidates are elected
 abbrev pub IsWardCheck : Option Poll → SheetEntry → List Bundle → List (ℕ × ℕ) → Text → Checked → Type 0
 IsWardCheck None ward bundles lots text checked = IsComparison text (sheet ward []) (declaration ward (numbers_of ward)) checked
 IsWardCheck (Some poll) ward bundles lots text checked = IsCountedCheck ward bundles lots text checked
@@ -87,19 +87,19 @@ IsCountProblem contest lots (problem.LotNotAmong stage) = (stages : List Stage) 
 IsCountProblem contest lots (problem.LotNotNeeded stage) = undrawn contest lots ≡ Some stage
 IsCountProblem contest lots problem.Memory = ⊤
 
--- the same for any ward, given its poll
+-- the same reason for any ward, given its poll
 abbrev pub IsWardProblem : Option Poll → SheetEntry → List Bundle → List (ℕ × ℕ) → Problem → Type 0
 IsWardProblem None ward bundles lots why = why ≡ problem.Memory
 IsWardProblem (Some poll) ward bundles lots why = IsCountProblem (contest_in ward bundles) lots why
 
--- a file is understood, but this problem prevents the count of the ward that it describes
+-- a file is understood, but the given problem prevents the count of the ward that it describes
 pub record Hinders (bytes : Text) (why : Problem) : Type 0 where
   pub reading : ReaderEntry
   pub understood : read bytes ≡ Ok reading
   pub hinders : IsWardProblem (ward_told reading).poll (ward_told reading) reading.papers.bundles reading.remarks.lots why
 
--- why a text can't be checked against a file of ballots: the line with this number is the first with a flaw; or no line has one, but the count can't be
--- finished; or an allocation failed
+-- the reason why a text can't be checked against a file of ballots: the line with the given number is the first with a flaw; or no line has one, but
+-- the count can't be finished; or an allocation failed
 abbrev pub IsProblem : Text → Problem → Type 0
 IsProblem bytes (problem.Line line flaw) = read bytes ≡ Err (line, flaw)
 IsProblem bytes problem.NoContest = Hinders bytes problem.NoContest

@@ -39,7 +39,7 @@ abbrev pub place_in : ℕ → List (ℕ × ℕ) → ℕ
 place_in stage [] = 0
 place_in stage (lot ∷ lots) = if nat_lt stage lot.0 then 0 else place_in stage lots + 1
 
--- lots in the order of their stages, with one more inserted at its position
+-- lots in the order of their stages, with another one inserted at its position
 abbrev pub with_lot : List (ℕ × ℕ) → (ℕ × ℕ) → List (ℕ × ℕ)
 with_lot lots lot = insert lots (place_in lot.0 lots) lot
 
@@ -64,13 +64,13 @@ undrawn_at end.Finished dues lots = undrawn_by dues lots
 undrawn_at (end.LotNeeded stage among) dues lots = None
 undrawn_at (end.LotNotAmong stage) dues lots = None
 
--- the count of a contest with the given lots: the whole count, which is the only one, the candidates elected by it, and the reason why it ends
+-- the count of a contest with the given lots: the whole count, which is the only count, the candidates elected by it, and the reason why it ends
 pub record IsCountBy (contest : Contest) (lots : List (ℕ × ℕ)) (count : WardCount) : Type 0 where
   pub counted : EndsAt contest lots count.stages.items count.end
   pub chosen : count.elected ≡ elected_after contest (reverse count.stages.items)
   pub drawn : undrawn_at count.end (dues_of contest lots) lots ≡ None
 
--- the count of a contested ward, whose papers make a contest
+-- the count of a contested ward, whose papers form a contest
 pub record IsContestedCount (ward : SheetEntry) (bundles : List Bundle) (lots : List (ℕ × ℕ)) (count : WardCount) : Type 0 where
   pub contest : IsContest (contest_in ward bundles)
   pub by_lots : IsCountBy (contest_in ward bundles) lots count
@@ -95,7 +95,7 @@ IsNotCounted contest lots (problem.LotNotAmong stage) = ⊥
 IsNotCounted contest lots (problem.LotNotNeeded stage) = undrawn contest lots ≡ Some stage
 IsNotCounted contest lots problem.Memory = ⊤
 
--- the same for any ward, given its poll
+-- the same reason for any ward, given its poll
 abbrev pub IsWardNotCounted : Option Poll → SheetEntry → List Bundle → List (ℕ × ℕ) → Problem → Type 0
 IsWardNotCounted None ward bundles lots why = why ≡ problem.Memory
 IsWardNotCounted (Some poll) ward bundles lots why = IsNotCounted (contest_in ward bundles) lots why
@@ -113,7 +113,7 @@ abbrev pub lots_in : Option Poll → List (ℕ × ℕ) → List (ℕ × ℕ)
 lots_in None lots = []
 lots_in (Some poll) lots = lots
 
--- a text of a count: the stage sheet, the declaration, the page with a title, the table, or the ballots with the lots
+-- a text of a count: the stage sheet, the declaration, the page with the given title, the table, or the ballots with the lots
 pub data TextEntry : Type 0 where
   sheet_asked : TextEntry
   declaration_asked : TextEntry
@@ -128,8 +128,8 @@ text_of (text.Page title) = page_asked title.now
 text_of text.Table = table_asked
 text_of text.Ballots = ballots_asked
 
--- A text of a ward's count, as an office prints it for a ward with these papers and lots. It covers the stages so far, or the ward as declared once
--- its count is finished. Until then there is no declaration.
+-- A text of a ward's count, as an office prints it for a ward with the given papers and lots. It covers the stages so far, or the ward as declared
+-- once its count is finished. Until then there is no declaration.
 abbrev pub text_shown : TextEntry → SheetEntry → List Bundle → List (ℕ × ℕ) → WardCount → Text
 text_shown sheet_asked ward bundles lots count = sheet ward count.stages.items
 text_shown declaration_asked ward bundles lots count = if is_finished count.end then declaration ward count.elected else []
@@ -173,7 +173,7 @@ IsNoLotLine why problem.Memory = ⊤
 
 -- ---- the count of a file
 
--- a text of the count of a ward with some papers and lots, and the line about the lot that the count is waiting for
+-- a text of the count of a ward with the given papers and lots, and the line about the lot that the count is waiting for
 pub record IsWardText (poll : Option Poll) (ward : SheetEntry) (bundles : List Bundle) (lots : List (ℕ × ℕ)) (text : TextEntry) (counted : CountedText) : Type 0 where
   pub count : WardCount
   pub is : IsWardCount poll ward bundles lots count
@@ -195,7 +195,7 @@ pub record IsReadingText (reading : ReaderEntry) (added : List (ℕ × ℕ)) (te
   pub ordered : lots_of reading.remarks.lots added ≡ Ok lots
   pub told : IsWardText (ward_told reading).poll (ward_told reading) reading.papers.bundles lots text counted
 
--- there is at most one lot per stage, but this problem prevents the count
+-- there is at most one lot per stage, but the given problem prevents the count
 pub record Prevents (reading : ReaderEntry) (added : List (ℕ × ℕ)) (why : Problem) : Type 0 where
   pub lots : List (ℕ × ℕ)
   pub ordered : lots_of reading.remarks.lots added ≡ Ok lots
@@ -218,8 +218,8 @@ pub record IsReadUncounted (file : Result ReaderEntry (ℕ × BallotsFlaw)) (add
   pub understood : file ≡ Ok reading
   pub hinders : IsReadingUncounted reading added why
 
--- the reason why a file of ballots isn't counted: its line with this number is the first that isn't understood; or the file is understood, but its
--- lots or its count have a problem; or an allocation failed
+-- the reason why a file of ballots isn't counted: its line with the given number is the first that isn't understood; or the file is understood,
+-- but its lots or its count have a problem; or an allocation failed
 abbrev pub IsUncounted : Result ReaderEntry (ℕ × BallotsFlaw) → List (ℕ × ℕ) → CountProblem → Type 0
 IsUncounted file added (uncounted.LotTwice stage) = IsReadUncounted file added (uncounted.LotTwice stage)
 IsUncounted file added (uncounted.Ballots (problem.Line line flaw)) = file ≡ Err (line, flaw)

@@ -15,7 +15,7 @@ abbrev pub ended_lines : Text → ℕ
 ended_lines [] = 0
 ended_lines (byte ∷ bytes) = if byte == 10 then ended_lines bytes + 1 else ended_lines bytes
 
--- what remains of a text after a number of lines
+-- what remains of a text after the given number of lines
 abbrev pub behind_lines : ℕ → Text → Text
 behind_lines zero text = text
 behind_lines (suc n) [] = []
@@ -30,7 +30,7 @@ first_line (byte ∷ bytes) = if byte == 10 then byte ∷ [] else byte ∷ first
 abbrev pub same_lines : Text → Text → ℕ
 same_lines text other = ended_lines (common text other)
 
--- the sheet or the declaration, whichever shares the longer prefix with a text, or the sheet if the prefixes are equally long
+-- the sheet or the declaration, whichever shares the longer prefix with the given text, or the sheet if the prefixes are equally long
 abbrev pub nearer : Text → Text → Text → Text
 nearer text sheet declaration = if nat_lt (length (common text sheet)) (length (common text declaration)) then declaration else sheet
 
@@ -39,7 +39,8 @@ pub record DiffersAt (text should : Text) (line : ℕ) (should_be : Text) : Type
   pub at : line ≡ same_lines text should + 1
   pub is : should_be ≡ first_line (behind_lines (same_lines text should) should)
 
--- the result of comparing a text with a sheet and a declaration: it is one of them; or it is neither, and this is the first line that differs from the more similar one
+-- the result of comparing a text with a sheet and a declaration: the text is one of the two; or it is neither, and the given line is the first that differs from the more
+-- similar one
 abbrev pub IsComparison : Text → Text → Text → Checked → Type 0
 IsComparison text sheet declaration checked.Sheet = text ≡ sheet
 IsComparison text sheet declaration checked.Declaration = text ≡ declaration

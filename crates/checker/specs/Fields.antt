@@ -20,7 +20,7 @@ step_of Quoted byte = if byte == 34 then Moves Closed else Adds Quoted
 step_of Closed byte = if byte == 44 then Ends else (if byte == 34 then Adds Quoted else Moves Astray)
 step_of Astray byte = Moves Astray
 
--- the result of the fields so far, the bytes of the next field, and the position of the next byte
+-- the result of the fields read so far, the bytes of the next field, and the position of the next byte
 pub record FieldsEntry (X : Type 0) : Type 0 where
   pub done : X
   pub field : Text
@@ -32,7 +32,7 @@ with_step take entry byte Ends = record { done = take entry.done entry.field; fi
 with_step take entry byte (Adds place) = record { done = entry.done; field = entry.field ++ byte ∷ []; place = place }
 with_step take entry byte (Moves place) = record { done = entry.done; field = entry.field; place = place }
 
--- the state after one more byte
+-- the state after another byte
 abbrev pub with_byte : {X : Type 0} → (X → Text → X) → FieldsEntry X → ℕ → FieldsEntry X
 with_byte take entry byte = with_step take entry byte (step_of entry.place byte)
 
@@ -55,7 +55,7 @@ begun none = record { done = none; field = []; place = Start }
 abbrev pub fields_folded : {X : Type 0} → (X → Text → X) → X → Text → Result X BallotsFlaw
 fields_folded take none line = ended take (fold (with_byte take) (begun none) line)
 
--- the fields so far, with one more
+-- the fields read so far, with another one
 abbrev pub with_field : List Text → Text → List Text
 with_field fields field = fields ++ field ∷ []
 

@@ -12,11 +12,11 @@ File = Result Text Text
 abbrev pub InputFiles : Type 0
 InputFiles = Text → Option File
 
--- the file at a path has these bytes
+-- the file at the given path has the given bytes
 abbrev pub Holds : InputFiles → Text → Text → Type 0
 Holds held path bytes = IfSome (held path) (λ file. file ≡ Ok bytes)
 
--- the file at a path can't be read, for this reason
+-- the file at the given path can't be read, for the given reason
 abbrev pub Withholds : InputFiles → Text → Text → Type 0
 Withholds held path why = IfSome (held path) (λ file. file ≡ Err why)
 

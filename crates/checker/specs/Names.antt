@@ -19,7 +19,7 @@ pub record Quoting : Type 0 where
   pub comment : Text
   pub within : Within
 
--- the same, with another position for the next byte
+-- the same state, with another position for the next byte
 abbrev pub moved_to : Within → Quoting → Quoting
 moved_to within quoting = record { name = quoting.name; comment = quoting.comment; within = within }
 
@@ -35,7 +35,7 @@ with_comment_byte quoting byte = record { name = quoting.name; comment = quoting
 abbrev pub outside : ℕ → Within → Quoting → ℕ → Quoting
 outside sign next quoting byte = if byte == sign then moved_to next quoting else (if is_blank byte then quoting else moved_to Beside quoting)
 
--- one more byte: a quotation mark opens or closes the name; within the name, a backslash escapes a quotation mark or a backslash, and is literal
+-- another byte: a quotation mark opens or closes the name; within the name, a backslash escapes a quotation mark or a backslash, and is literal
 -- before any other byte; after the name, `#` begins a comment
 abbrev pub quoting_at : Within → Quoting → ℕ → Quoting
 quoting_at Before quoting byte = outside 34 Inside quoting byte

@@ -2,7 +2,7 @@
 use Rattle.std.specs.Prelude.{Result, Ok, Err}
 use Rattle.checker.specs.declared.problem.BallotsFlaw.{BallotsFlaw}
 
--- a function applied to a part that was understood, which may find a flaw itself
+-- a function applied to a part that was understood, which may itself find a flaw
 abbrev pub and_then : {X Y : Type 0} → Result X BallotsFlaw → (X → Result Y BallotsFlaw) → Result Y BallotsFlaw
 and_then (Ok x) f = f x
 and_then (Err flaw) f = Err flaw

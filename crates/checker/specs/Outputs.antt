@@ -1,11 +1,11 @@
--- What the two outputs accept of their texts.
+-- How much of their texts the two outputs accept.
 use Rattle.std.specs.Prelude.{ℕ, ◌≡◌, ◌⊎◌, ◌+◌, List, Option, codes}
 use Rattle.std.specs.Io.KnownBytes.{Appends}
 use Rattle.streams.specs.Streams.{AppendsBeginning}
 use Rattle.checker.specs.Reports.{ReportEntry}
 use Rattle.checker.specs.Tokens.{Text}
 
--- an output: the bytes that it has accepted, as far as they are known, and how many of its calls failed
+-- an output: the bytes that it has accepted, as far as they are known, and how many of the calls on it failed
 pub record Output : Type 0 where
   pub taken : Option (List ℕ)
   pub failed : ℕ
@@ -13,12 +13,12 @@ pub record Output : Type 0 where
 abbrev pub output_of : {W : Type 0} → (W → Option (List ℕ)) → (W → ℕ) → W → Output
 output_of taken failed sink = record { taken = taken sink; failed = failed sink }
 
--- it accepted the whole text
+-- the output accepted the whole text
 pub record Took (old new : Output) (text : Text) : Type 0 where
   pub whole : Appends old.taken new.taken text
   pub unbroken : new.failed ≡ old.failed
 
--- it accepted a prefix of a text, and failed
+-- the output accepted a prefix of a text, then failed
 pub record BrokeOff (old new : Output) (text : Text) : Type 0 where
   pub beginning : AppendsBeginning old.taken new.taken text
   pub broken : new.failed ≡ old.failed + 1
@@ -35,7 +35,7 @@ outputs_of taken failed taken_err failed_err out err = record { out = output_of 
 abbrev pub broken_line : Text
 broken_line = codes "error: the output failed\n"
 
--- the whole page was printed, and the program ends with its status
+-- the whole page was printed, and the program ends with the page's status
 pub record IsWhole (old new : Outputs) (page : ReportEntry) (status : ℕ) : Type 0 where
   pub out : Took old.out new.out page.out
   pub err : Took old.err new.err page.err
@@ -57,7 +57,7 @@ pub record IsErrorOutputBroken (old new : Outputs) (page : ReportEntry) (status 
 abbrev pub Tells : Outputs → Outputs → ReportEntry → ℕ → Type 0
 Tells old new page status = IsWhole old new page status ⊎ (IsOutputBroken old new page status ⊎ IsErrorOutputBroken old new page status)
 
--- some page with a property was printed
+-- some page with the given property was printed
 pub record PrintsSomeReport (old new : Outputs) (status : ℕ) (IsPage : ReportEntry → Type 0) : Type 0 where
   pub page : ReportEntry
   pub told : Tells old new page status

@@ -10,7 +10,7 @@ use Rattle.checker.specs.Ranks.{named_in, without}
 use Rattle.checker.specs.declared.problem.BallotsFlaw.{BallotsFlaw}
 use Rattle.checker.specs.declared.problem.BallotsFlaw.TheVariants.{NoPapers, NoPreference, NoSeat, NotNumber, Size, TooManyPapers}
 
--- the content of these parts: the highest candidate number, the seats, the numbers of withdrawn candidates, and the papers in bundles
+-- the content of the parts of a file: the highest candidate number, the seats, the numbers of withdrawn candidates, and the papers in bundles
 pub record PapersEntry : Type 0 where
   pub highest : ℕ
   pub seats : ℕ
@@ -54,7 +54,7 @@ some_papers papers = if papers == 0 then Err NoPapers else Ok papers
 abbrev pub papers_in : Text → Result ℕ BallotsFlaw
 papers_in word = and_then (number_in max_papers word) some_papers
 
--- one or more papers with the same preferences added
+-- the papers read so far, with one or more papers added that have the same preferences
 abbrev pub with_list : PapersEntry → ℕ → List ℕ → Result PapersEntry BallotsFlaw
 with_list told papers [] = Err NoPreference
 with_list told papers (c ∷ list) =

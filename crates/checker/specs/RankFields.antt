@@ -17,11 +17,11 @@ abbrev pub is_number : Result ℕ BallotsFlaw → ℕ → Bool
 is_number (Ok number) c = number == c
 is_number (Err flaw) c = false
 
--- whether a field names the candidate with this number and this name
+-- whether a field names the candidate with the given number and name
 abbrev pub is_of : Text → ℕ → Text → Bool
 is_of field c name = is_word name field || is_number (number_in max_candidates field) c
 
--- the only candidate that a field names, given the one found among the numbers before this one
+-- the only candidate that a field names, given the one found among the lower numbers
 abbrev pub candidate_from : Text → Option ℕ → ℕ → List Text → Result ℕ BallotsFlaw
 candidate_from field None c [] = Err flaw.NotCandidate
 candidate_from field (Some found) c [] = Ok found

@@ -20,16 +20,16 @@ pub record Ranked : Type 0 where
 abbrev pub is_zero : Text → Bool
 is_zero word = pointwise nat_eq word (codes "0")
 
--- the same, with another position for the next word
+-- the same line, with another position for the next word
 abbrev pub at_next : NextWord → Ranked → Ranked
 at_next next ranks = record { named = ranks.named; next = next }
 
--- one more candidate, who must not have appeared before
+-- another candidate, who must not have appeared before
 abbrev pub with_named : Ranked → ℕ → Result Ranked BallotsFlaw
 with_named ranks c =
     if list_any (λ d. d == c) ranks.named then Err CandidateTwice else Ok (record { named = ranks.named ++ c ∷ []; next = ranks.next })
 
--- the candidate whose number is in a word
+-- the candidate whose number is in the given word
 abbrev pub with_candidate : ℕ → Ranked → Text → Result Ranked BallotsFlaw
 with_candidate highest ranks word = and_then (candidate_in highest word) (with_named ranks)
 
@@ -42,17 +42,17 @@ with_each highest ranks (word ∷ words) = and_then (with_candidate highest rank
 abbrev pub sharers : Text → List Text
 sharers word = pieces_of Equals [] word
 
--- the number of candidates who haven't withdrawn, after one more candidate
+-- the number of candidates who haven't withdrawn, once c is included
 abbrev pub standing_with : List ℕ → ℕ → ℕ → ℕ
 standing_with withdrawn standing c = if list_any (nat_eq c) withdrawn then standing else standing + 1
 
--- how many of the candidates in some words haven't withdrawn, added to the number of earlier ones
+-- how many of the candidates in the given words haven't withdrawn, added to the number of earlier ones
 abbrev pub standing_from : ℕ → List ℕ → ℕ → List Text → Result ℕ BallotsFlaw
 standing_from highest withdrawn standing [] = Ok standing
 standing_from highest withdrawn standing (word ∷ words) =
     and_then (candidate_in highest word) (λ c. standing_from highest withdrawn (standing_with withdrawn standing c) words)
 
--- one more rank, given how many of its candidates haven't withdrawn. If there are several, no preference is read after it. Otherwise all its
+-- another rank, given how many of its candidates haven't withdrawn. If there are several, no preference is read after it. Otherwise all its
 -- candidates become preferences, since all but at most one have withdrawn and are skipped.
 abbrev pub with_rank : NextWord → ℕ → Ranked → List Text → ℕ → Result Ranked BallotsFlaw
 with_rank Preference highest ranks words standing = if nat_lt 1 standing then Ok (at_next BehindShared ranks) else with_each highest ranks words
@@ -63,7 +63,7 @@ with_rank BehindZero highest ranks words standing = Err NoZero
 abbrev pub with_rank_word : ℕ → List ℕ → Ranked → Text → Result Ranked BallotsFlaw
 with_rank_word highest withdrawn ranks word = and_then (standing_from highest withdrawn 0 (sharers word)) (with_rank ranks.next highest ranks (sharers word))
 
--- one more word: 0 ends the line, and any other word must be a rank, even after a shared one
+-- another word: 0 ends the line, and any other word must be a rank, even after a shared one
 abbrev pub with_word_at : NextWord → ℕ → List ℕ → Ranked → Text → Result Ranked BallotsFlaw
 with_word_at BehindZero highest withdrawn ranks word = Err NoZero
 with_word_at next highest withdrawn ranks word = if is_zero word then Ok (at_next BehindZero ranks) else with_rank_word highest withdrawn ranks word
@@ -86,12 +86,12 @@ named_at BehindZero named = Ok named
 abbrev pub named_of : Ranked → Result (List ℕ) BallotsFlaw
 named_of ranks = named_at ranks.next ranks.named
 
--- the candidates in some words, after earlier ones
+-- the candidates in the given words, after earlier ones
 abbrev pub named_from : ℕ → List ℕ → Ranked → List Text → Result (List ℕ) BallotsFlaw
 named_from highest withdrawn ranks [] = named_of ranks
 named_from highest withdrawn ranks (word ∷ words) = and_then (with_word highest withdrawn ranks word) (λ more. named_from highest withdrawn more words)
 
--- the candidates in the words after a number of papers, in order, up to a shared rank or the 0
+-- the candidates in the words that follow a number of papers, in order, up to a shared rank or the 0
 abbrev pub named_in : ℕ → List ℕ → List Text → Result (List ℕ) BallotsFlaw
 named_in highest withdrawn words = named_from highest withdrawn (record { named = []; next = Preference }) words
 

@@ -26,7 +26,7 @@ pub record ReaderEntry : Type 0 where
   pub names : Named
   pub remarks : Remarks
 
--- the same, with other papers, other names or other remarks
+-- the same content, with other papers, other names or other remarks
 abbrev pub with_papers_at : ReaderEntry → NextLine → PapersEntry → ReaderEntry
 with_papers_at reading place papers = record { place = place; papers = papers; names = reading.names; remarks = reading.remarks }
 
@@ -67,7 +67,7 @@ with_papers_line reading words =
     then Ok (with_papers_at reading place.CandidateNames reading.papers)
     else and_then (with_bundle reading.papers words) (λ papers. Ok (with_papers_at reading place.PaperTotals papers))
 
--- a line of withdrawn candidates, which come before all papers; or a line of papers
+-- a line of withdrawn candidates, which precede all papers; or a line of papers
 abbrev pub with_withdrawn_line : ReaderEntry → List Text → Result ReaderEntry BallotsFlaw
 with_withdrawn_line reading words =
     if is_withdrawn_line words
@@ -96,7 +96,7 @@ with_content_at place.PaperTotals reading line = and_then (words_before_comment 
 with_content_at place.CandidateNames reading line = with_name_line reading line
 with_content_at place.End reading line = Err BehindName
 
--- a line: an empty one is skipped; our own comments on lines of their own are read at any position
+-- a line: an empty one is skipped; our own comments on separate lines are read at any position
 abbrev pub with_line_of : LineKind → ReaderEntry → Text → Result ReaderEntry BallotsFlaw
 with_line_of Empty reading line = Ok reading
 with_line_of Comment reading line = and_then (with_comment reading.remarks line) (λ remarks. Ok (with_remarks reading remarks))
@@ -105,7 +105,7 @@ with_line_of Content reading line = with_content_at reading.place reading line
 abbrev pub with_line : ReaderEntry → Text → Result ReaderEntry BallotsFlaw
 with_line reading line = with_line_of (kind_of line) reading line
 
--- the flaw of a file that ends when a line of this kind should follow
+-- the flaw of a file that ends when a line of the given kind should follow
 abbrev pub at_end : NextLine → ReaderEntry → Result ReaderEntry BallotsFlaw
 at_end place.Size reading = Err NoSize
 at_end place.Withdrawn reading = Err NoEnd
@@ -118,8 +118,8 @@ abbrev pub on_line : {X Y : Type 0} → ℕ → Result X BallotsFlaw → (X → 
 on_line k (Ok x) f = f x
 on_line k (Err flaw) f = Err (k, flaw)
 
--- The content of some lines that follow a number of others; or the flaw of the first line that isn't understood, or of the end. A flaw of the end has
--- the number of the last line, which is empty if the file ends with a line feed.
+-- The content of the given lines, which follow a given number of others; or the flaw of the first line that isn't understood, or of the end. A flaw
+-- of the end has the number of the last line, which is empty if the file ends with a line feed.
 abbrev pub read_from : ℕ → ReaderEntry → List Text → Result ReaderEntry (ℕ × BallotsFlaw)
 read_from k reading [] = on_line k (at_end reading.place reading) (λ read. Ok read)
 read_from k reading (line ∷ lines) = on_line (k + 1) (with_line reading line) (λ more. read_from (k + 1) more lines)

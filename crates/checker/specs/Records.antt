@@ -41,7 +41,7 @@ pub record RecordsEntry : Type 0 where
 
 -- ---- the first line
 
--- a ward with these candidates and seats, and no papers yet
+-- a ward with the given candidates and seats, and no papers yet
 abbrev pub papers_for : ℕ → List Text → PapersEntry
 papers_for seats names = record { highest = length names; seats = seats; withdrawn = []; bundles = [] }
 
@@ -59,7 +59,7 @@ with_header entry line = and_then (header_in (length entry.names == 0) line) (λ
 
 -- ---- the papers
 
--- valid papers with these preferences
+-- valid papers with the given preferences
 abbrev pub with_valid : RecordsEntry → ℕ → List ℕ → Result RecordsEntry BallotsFlaw
 with_valid entry papers list =
     and_then (with_list entry.papers papers list) (λ more. Ok (record {
@@ -138,7 +138,7 @@ after_comma (byte ∷ bytes) = if byte == 44 then bytes else after_comma bytes
 abbrev pub has_comma : Text → Bool
 has_comma line = list_any (λ byte. byte == 44) line
 
--- `12,2,1,3`: the number of papers with these fields
+-- `12,2,1,3`: the number of papers, followed by their fields
 abbrev pub with_counted : RecordsEntry → Text → Result RecordsEntry BallotsFlaw
 with_counted entry line =
     if has_comma line then and_then (papers_in (before_comma line)) (λ papers. with_papers entry papers (after_comma line)) else Err flaw.FieldCount
@@ -187,7 +187,7 @@ nothing_recorded ward = record {
   rejected = 0 ∷ 0 ∷ 0 ∷ 0 ∷ 0 ∷ [];
 }
 
--- the content that would have resulted if the ward's ballots, with this name, had been read
+-- the content that would have resulted if the ward's ballots, with the given name, had been read
 abbrev pub as_read : Text → RecordsEntry → ReaderEntry
 as_read name entry = record {
   place = End;

@@ -14,7 +14,7 @@ use Rattle.checker.specs.Tokens.{Text}
 use Rattle.checker.specs.declared.problem.BallotsFlaw.{BallotsFlaw}
 use Rattle.checker.specs.declared.problem.BallotsFlaw.TheVariants as flaw
 
--- the columns: one for each of the candidates with these names, or this many for ranks
+-- the columns: one for each of the candidates with the given names, or the given number of columns for ranks
 pub data ColumnsEntry : Type 0 where
   of_candidates : List Text → ColumnsEntry
   of_ranks : ℕ → ColumnsEntry
@@ -42,7 +42,7 @@ is_title word = str_eq_ignore_ascii_case word (codes "rank") || (str_eq_ignore_a
     str_eq_ignore_ascii_case word (codes "votes") || (str_eq_ignore_ascii_case word (codes "papers") || (
     str_eq_ignore_ascii_case word (codes "ballot") || str_eq_ignore_ascii_case word (codes "ballots")))))))))
 
--- whether a column might be for something other than a candidate: its name begins with a digit, or with such a word
+-- whether a column might be for something other than a candidate: its name begins with a digit, or with one of those words
 abbrev pub is_titled : Text → Bool
 is_titled [] = false
 is_titled (byte ∷ bytes) = is_ascii_digit byte || is_title (first_letters (byte ∷ bytes))
@@ -51,7 +51,7 @@ is_titled (byte ∷ bytes) = is_ascii_digit byte || is_title (first_letters (byt
 abbrev pub candidate_name : Text → Result Text BallotsFlaw
 candidate_name field = if length field == 0 then Err flaw.NoColumnName else (if is_titled field then Err flaw.NotCandidateColumn else as_text field)
 
--- the names in some fields, after earlier ones
+-- the names in the given fields, after earlier ones
 abbrev pub names_from : List Text → List Text → Result (List Text) BallotsFlaw
 names_from names [] = Ok names
 names_from names (field ∷ fields) =
@@ -67,11 +67,11 @@ abbrev pub after_rank : Text → Text
 after_rank (a ∷ b ∷ c ∷ d ∷ field) = if b == 97 && (c == 110 && d == 107) then (if a == 114 || a == 82 then without_space field else []) else []
 after_rank field = []
 
--- whether a column is for this rank
+-- whether a column is for the given rank
 abbrev pub is_rank : ℕ → Text → Bool
 is_rank rank field = is_number (number_in max_candidates (after_rank field)) rank
 
--- the number of rank columns, after some of them
+-- the number of rank columns, given the number already read
 abbrev pub ranks_from : ℕ → List Text → Result ℕ BallotsFlaw
 ranks_from ranks [] = Ok ranks
 ranks_from ranks (field ∷ fields) =

@@ -23,7 +23,7 @@ use Rattle.checker.specs.declared.problem.Problem.TheVariants as problem
 
 -- ---- lines for a terminal
 
--- whether a character is in a range
+-- whether a character is in the given range
 abbrev pub is_from : ℕ → ℕ → ℕ → Bool
 is_from low high c = nat_le low c && nat_le c high
 
@@ -32,7 +32,7 @@ abbrev pub steers : ℕ → Bool
 steers c =
     (is_from 0 31 c && not (c == 10)) || (is_from 127 159 c || (c == 1564 || (is_from 8206 8207 c || (is_from 8234 8238 c || is_from 8294 8297 c))))
 
--- a question mark in place of such a character
+-- a question mark in place of a character that controls a terminal or the writing direction; any other character unchanged
 abbrev pub shown_character : ℕ → Text
 shown_character c = if steers c then codes "?" else encode_utf8 c
 
@@ -170,7 +170,7 @@ abbrev pub counted_page : Text → Option Text → ReportEntry
 counted_page text None = record { out = text; err = []; status = 0 }
 counted_page text (Some line) = record { out = text; err = line; status = 1 }
 
--- the page for the outcome of the program's arguments
+-- the page for the outcome of running the program
 abbrev pub page_of : Report → ReportEntry
 page_of report.Help = page_with 0 HELP.now
 page_of report.CountHelp = page_with 0 COUNT_HELP.now

@@ -30,7 +30,7 @@ form_told (Some ward) = records (ward_told ward)
 abbrev pub request_told : CountRequest → CountEntry
 request_told request = record { ballots = request.ballots.now; form = form_told request.ward; text = text_of request.text; lots = request.lots.items }
 
--- the request made up of some words, or the reason why they aren't understood
+-- the request made up of the given words, or the reason why they aren't understood
 abbrev pub IsRequest : Result CountEntry WordsFlaw → Result CountRequest WordsFlaw → Type 0
 IsRequest told (Ok request) = told ≡ Ok (request_told request)
 IsRequest told (Err why) = told ≡ Err why

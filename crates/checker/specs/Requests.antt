@@ -119,7 +119,7 @@ with_name words name =
     if is_some words.name then Err flaw.SecondTime
     else Ok (record { next = next.Any; ballots = words.ballots; text = words.text; title = words.title; lots = words.lots; seats = words.seats; name = Some name; candidates = words.candidates })
 
--- the request with one more candidate, whose name has a length in range
+-- the request with another candidate, whose name has a length in range
 abbrev pub with_candidate : WordsEntry → Text → Result WordsEntry WordsFlaw
 with_candidate words name =
     if length name == 0 || nat_lt max_name (length name) then Err flaw.Candidates
@@ -152,7 +152,7 @@ with_any words word =
     if is_word (codes "--candidate") word then Ok (with_next words next.Candidate)
     else with_text_or_ballots words (text_option word) word))))
 
--- the request with one more word
+-- the request with another word
 abbrev pub with_word_at : NextWord → WordsEntry → Text → Result WordsEntry WordsFlaw
 with_word_at next.Any words word = with_any words word
 with_word_at next.Title words word = with_title words word
@@ -207,13 +207,13 @@ abbrev pub request_of : Result WordsEntry WordsFlaw → Result CountEntry WordsF
 request_of (Ok words) = request_at words.next words
 request_of (Err why) = Err why
 
--- the request so far, with some more words
+-- the request so far, with more words
 abbrev pub with_words : Result WordsEntry WordsFlaw → List Text → Result WordsEntry WordsFlaw
 with_words (Err why) more = Err why
 with_words (Ok words) [] = Ok words
 with_words (Ok words) (word ∷ more) = with_words (with_word words word) more
 
--- the request made up of some words
+-- the request made up of the given words
 abbrev pub count_request : List Text → Result CountEntry WordsFlaw
 count_request words = request_of (with_words (Ok nothing_asked) words)
 

@@ -13,7 +13,7 @@ Text = List ℕ
 abbrev pub is_blank : ℕ → Bool
 is_blank byte = byte == 32 || (byte == 9 || byte == 13)
 
--- Whether a byte separates two pieces. A line feed separates lines, and blanks separate words; in our own comments, colons and commas do so too. An
+-- Whether a byte separates two pieces. A line feed separates lines, and blanks separate words; in our own comments, so do colons and commas. An
 -- equals sign separates the candidates who share a rank, and a colon separates the stage of a lot from its candidate.
 abbrev pub parts : Separator → ℕ → Bool
 parts LineFeed byte = byte == 10
@@ -27,7 +27,7 @@ abbrev pub word : Text → List Text
 word [] = []
 word (byte ∷ bytes) = (byte ∷ bytes) ∷ []
 
--- a complete piece: a line, one of the candidates who share a rank, or a part of a lot may be empty, but between two blanks there is no word
+-- a complete piece: a line, one of the candidates who share a rank, or a part of a lot may be empty, but an empty piece between two blanks isn't a word
 abbrev pub piece : Separator → Text → List Text
 piece LineFeed text = text ∷ []
 piece Blank text = word text

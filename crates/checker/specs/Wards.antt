@@ -9,7 +9,7 @@ use Rattle.sheet.specs.declared.ward.Poll.{Poll}
 use Rattle.checker.specs.Tokens.{Text}
 use Rattle.checker.specs.Reading.{ReaderEntry}
 
--- the candidates with the given names, numbered consecutively starting from a number; withdrawn numbers are skipped
+-- the candidates with the given names, numbered consecutively starting from a given number; withdrawn numbers are skipped
 abbrev pub candidates_from : List ℕ → ℕ → List Text → List (ℕ × Text)
 candidates_from withdrawn k [] = []
 candidates_from withdrawn k (name ∷ names) =
@@ -29,7 +29,7 @@ poll_by (Some rejected) bundles candidates seats = Some (poll_of bundles rejecte
 poll_by None (bundle ∷ bundles) candidates seats = Some (poll_of (bundle ∷ bundles) (0 ∷ 0 ∷ 0 ∷ 0 ∷ 0 ∷ []))
 poll_by None [] candidates seats = if nat_le candidates seats then None else Some (poll_of [] (0 ∷ 0 ∷ 0 ∷ 0 ∷ 0 ∷ []))
 
--- the ward that a file describes; if it contains no number, it is ward 1
+-- the ward that a file describes; if the file contains no ward number, it is ward 1
 abbrev pub candidates_told : ReaderEntry → List (ℕ × Text)
 candidates_told reading = candidates_of reading.papers.withdrawn reading.names.names
 

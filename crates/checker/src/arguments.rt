@@ -27,7 +27,7 @@ pub enum ArgumentsFault {
     Memory,
 }
 
-/// Returns the bytes of a file, or the outcome of the program if it can't be read.
+/// Returns the bytes of a file, or the outcome of the program if the file can't be read.
 fn bytes_of<F: InputFiles>(alloc: Global, folder: &F, path: &str) -> Result<Vec<u8>, Report>
     ensures ok { IfOk result (λ bytes. Holds (F.held folder.now) path.now bytes.items) }
     ensures err { IfErr result (λ told. IsUnreadFile (F.held folder.now) path.now told) }
@@ -76,7 +76,7 @@ fn checked_files<F: InputFiles>(alloc: Global, folder: &F, ballots: &str, text: 
     }
 }
 
-/// Returns whether an argument asks for help.
+/// Returns whether the argument asks for help.
 fn is_help(word: &str) -> bool
     ensures { result ≡ is_help word.now }
 {
@@ -161,7 +161,7 @@ fn answer<F: InputFiles>(alloc: Global, words: &[String], folder: &F) -> Report
     check_answer(alloc, words, folder)
 }
 
-/// Returns the outcome of the program's arguments, or of the failure to read them.
+/// Returns the outcome for the program's arguments, or for the failure to read them.
 fn outcome_of<F: InputFiles>(
     alloc: Global,
     words: &Result<Vec<String>, ArgumentsFault>,
@@ -182,11 +182,11 @@ fn outcome_of<F: InputFiles>(
 /// if the text is the sheet or the declaration that results from the ballots; `out` then says which. It is 1 if the text differs.
 ///
 /// The arguments for a count are `--count`, followed by `--help`, or by the path of the ballots, the option for a text other than
-/// the sheet, and lots. The text is printed on `out`. The status is 0 if the count is finished. It is 1 if a lot is needed: the text
+/// the sheet, and lots. The text is printed to `out`. The status is 0 if the count is finished. It is 1 if a lot is needed: the text
 /// then covers the stages so far, and `err` names the stage and the tied candidates.
 ///
 /// The status is 0 for help, 2 if the arguments or the ballots aren't understood or can't be counted, and 3 if a file can't be read
-/// or an allocation fails; the reason is printed on `err`. It is also 3 if one of the two outputs fails; that output has then
+/// or an allocation fails; the reason is printed to `err`. It is also 3 if one of the two outputs fails; that output has then
 /// accepted a prefix.
 pub fn run<F: InputFiles, O: Sink, E: Sink>(
     alloc: Global,

@@ -30,7 +30,7 @@ pub enum CountText<'a> {
     Sheet,
     /// The declaration of a finished count; empty until then.
     Declaration,
-    /// The page for a browser, with this title; it shows the ward as declared if its count is finished.
+    /// The page for a browser, with the given title; it shows the ward as declared if its count is finished.
     Page(&'a str),
     /// The table of the stages for a spreadsheet.
     Table,
@@ -50,13 +50,13 @@ pub struct CountedText {
 /// The reason why ballots aren't counted.
 #[derive(Clone, Copy)]
 pub enum CountProblem {
-    /// A second lot is given for this stage.
+    /// A second lot is given for stage `stage`.
     LotTwice { stage: u8 },
     /// The ballots or their lots have a problem, or an allocation failed.
     Ballots(Problem),
 }
 
-/// Returns whether a count is finished.
+/// Returns whether the count is finished.
 fn is_finished(end: CountEnd) -> bool
     ensures { result ≡ is_finished end }
 {
@@ -151,7 +151,7 @@ fn counted(alloc: Global, election: &Election, text: &CountText) -> Result<Count
     }
 }
 
-/// Counts the ward in a file with further lots, and returns a text of its count.
+/// Counts the ward in a file, with further lots, and returns a text of its count.
 fn counted_as(
     alloc: Global,
     told: &Reader,
@@ -205,10 +205,10 @@ pub fn count_ballots(
 ///
 /// The records are comma-separated values. The first line names the columns; if the first column is `count`, it contains the number
 /// of papers that each line represents. If no candidates are given, each other column is for a candidate, and a line contains the
-/// ranks that a paper gives to them. Its preferences are then the candidates with ranks 1, 2, 3, .., for as long as each rank is
-/// given to exactly one candidate. If candidates are given, each other column is for a rank, and a line contains the candidates, by
-/// number or by name. Its preferences are then those before the first empty field. A paper with no first preference, or with several,
-/// is rejected.
+/// ranks that a paper gives to the candidates. Its preferences are then the candidates with ranks 1, 2, 3, .., for as long as each
+/// rank is given to exactly one candidate. If candidates are given, each other column is for a rank, and a line contains the
+/// candidates, by number or by name. Its preferences are then those before the first empty field. A paper with no first preference,
+/// or with several, is rejected.
 pub fn count_records(
     alloc: Global,
     ward: &RecordsWard,

@@ -36,7 +36,7 @@ fn compared(
     comparison(alloc, text, sheet.as_str(), declaration.as_str())
 }
 
-/// Returns the reason why a count isn't finished; `None` if it is.
+/// Returns the reason why the count isn't finished; `None` if it is.
 fn problem_of(end: CountEnd) -> Option<Problem>
     ensures { result ≡ problem_of end }
 {
@@ -79,8 +79,8 @@ fn checked_as(alloc: Global, told: &Reader, text: &[u8]) -> Result<Checked, Prob
     checked_for(alloc, &election, text)
 }
 
-/// Checks a text against the ballots of its ward. It must be exactly the stage sheet of the finished count of these ballots, rejected
-/// papers and lots, or the declaration of the candidates elected by that count.
+/// Checks a text against the ballots of its ward. It must be exactly the stage sheet of the finished count of the given ballots,
+/// rejected papers and lots, or the declaration of the candidates elected by that count.
 ///
 /// The ballots are read as printed by `ballots`, or as written by other counting programs. Without our own comments, the ward has
 /// number 1, no rejected papers and no lots. A text that differs is compared with the sheet or the declaration, whichever shares the

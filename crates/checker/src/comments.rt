@@ -13,7 +13,7 @@ use crate::problem::BallotsFlaw;
 use crate::tokens::{Separator, pieces_of};
 use std::alloc::{AllocError, Global};
 
-/// Returns whether a word equals the given text.
+/// Returns whether the word equals the given text.
 pub(crate) fn is_word(text: &str, word: &[u8]) -> bool
     ensures { result ≡ is_word text.now word.now }
 {
@@ -40,7 +40,7 @@ fn count_in(word: &[u8]) -> Option<u32>
     }
 }
 
-/// Parses the number of a ward.
+/// Parses a ward number.
 fn ward_in(words: &[&[u8]]) -> Option<u8>
     ensures { result ≡ ward_in (map (λ w. w.now) words.now) }
 {
@@ -88,7 +88,7 @@ fn rejected_counts_in(words: &[&[u8]]) -> Option<[u32; 5]>
     Some([first, second, third, fourth, fifth])
 }
 
-/// Parses a stage and the candidate drawn by its lot.
+/// Parses a stage and the candidate that its lot names.
 fn lot_in(words: &[&[u8]]) -> Option<(u8, u8)>
     ensures { result ≡ lot_in (map (λ w. w.now) words.now) }
 {
@@ -101,7 +101,7 @@ fn lot_in(words: &[&[u8]]) -> Option<(u8, u8)>
     Some((small_in(k)?, small_in(c)?))
 }
 
-/// Returns whether a lot is recorded for a stage.
+/// Returns whether a lot is recorded for the given stage.
 pub(crate) fn is_drawn(stage: u8, lots: &[(u8, u8)]) -> bool
     ensures { result ≡ is_drawn stage lots.now }
 {
@@ -205,7 +205,7 @@ impl Comments {
         self.take_kind(line, kind, others)
     }
 
-    /// Processes a comment that is on a line of its own.
+    /// Processes a comment on a separate line.
     pub(crate) fn take(
         &mut self,
         alloc: Global,

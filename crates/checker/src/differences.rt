@@ -12,8 +12,8 @@ pub enum Checked {
     Sheet,
     /// The text is exactly the declaration that results from the ballots.
     Declaration,
-    /// The text differs: the first line that differs, counted from 1, and what it should be, including its line feed; empty if the
-    /// text should have ended.
+    /// The text differs. The first line that differs is `line`, counted from 1. `should_be` is that line as it should be,
+    /// including its line feed; empty if the text should have ended.
     Differs { line: u64, should_be: String },
 }
 
@@ -46,7 +46,7 @@ fn ended_lines(text: &[u8]) -> usize
     lines
 }
 
-/// Returns what remains of a text after a number of lines.
+/// Returns what remains of a text after the given number of lines.
 fn behind_lines(lines: usize, text: &[u8]) -> &[u8]
     ensures { result.now ≡ behind_lines lines text.now }
 {
@@ -75,7 +75,7 @@ fn first_line(text: &[u8]) -> &[u8]
     text
 }
 
-/// Returns the line that follows a number of lines in a text; `AllocError` if an allocation fails.
+/// Returns the line that follows the given number of lines in a text; `AllocError` if an allocation fails.
 fn line_behind(alloc: Global, lines: usize, text: &str) -> Result<String, AllocError>
     ensures { IfOk result (λ line. string_bytes line ≡ first_line (behind_lines lines text.now)) }
 {
@@ -84,7 +84,7 @@ fn line_behind(alloc: Global, lines: usize, text: &str) -> Result<String, AllocE
     Ok(String::from_utf8(bytes).unwrap())
 }
 
-/// Returns the sheet or the declaration, whichever shares the longer prefix with a text.
+/// Returns the sheet or the declaration, whichever shares the longer prefix with the given text.
 fn nearer<'a>(text: &[u8], sheet: &'a str, declaration: &'a str) -> &'a str
     ensures { result.now ≡ nearer text.now sheet.now declaration.now }
 {

@@ -14,28 +14,28 @@ use std::mem;
 pub(crate) enum FieldPlace {
     /// At the beginning of a field.
     Start,
-    /// In a field without quotation marks.
+    /// In an unquoted field.
     Plain,
-    /// In a field with quotation marks.
+    /// In a quoted field.
     Quoted,
-    /// After a quotation mark in such a field, which either ends the field or is the first of two.
+    /// In a quoted field, after a quotation mark that either ends the field or is the first of two.
     Closed,
     /// After something that isn't part of a field.
     Astray,
 }
 
-/// The meaning of a byte at a position.
+/// The meaning of a byte at a given position.
 #[derive(Clone, Copy)]
 pub(crate) enum FieldStep {
     /// The field ends before this byte.
     Ends,
-    /// The byte is part of the field, and the next byte is at this position.
+    /// The byte is part of the field, and the next byte is at the given position.
     Adds(FieldPlace),
-    /// The byte isn't part of the field, and the next byte is at this position.
+    /// The byte isn't part of the field, and the next byte is at the given position.
     Moves(FieldPlace),
 }
 
-/// The fields so far, the bytes of the next one, and the position of the next byte.
+/// The fields read so far, the bytes of the next one, and the position of the next byte.
 #[derive(Drop)]
 pub(crate) struct Fields {
     done: Vec<Vec<u8>>,
@@ -56,7 +56,7 @@ fn outside_step(next: FieldPlace, byte: u8) -> FieldStep
     FieldStep::Adds(FieldPlace::Plain)
 }
 
-/// Returns the meaning of a byte at a position.
+/// Returns the meaning of a byte at the given position.
 pub(crate) fn step_of(place: FieldPlace, byte: u8) -> FieldStep
     ensures { result ≡ step_of place byte }
 {

@@ -35,7 +35,7 @@ pub(crate) struct Comments {
     pub(crate) ward: Option<u8>,
     /// The number of rejected papers for each code, 1 to 5.
     pub(crate) rejected: Option<[u32; 5]>,
-    /// Stages, counted from 1, each with the candidate drawn by its lot.
+    /// Stages, counted from 1, each with the candidate that its lot names.
     pub(crate) lots: Vec<(u8, u8)>,
 }
 
@@ -83,9 +83,9 @@ pub(crate) struct Records {
 /// The columns of cast-vote records.
 #[derive(Drop)]
 pub(crate) enum RecordColumns {
-    /// A column for each of the candidates with these names.
+    /// A column for each of the candidates with the given names.
     Candidates(Vec<String>),
-    /// This many columns for ranks.
+    /// The given number of columns for ranks.
     Ranks(u8),
 }
 

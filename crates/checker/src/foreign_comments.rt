@@ -29,7 +29,7 @@ pub(crate) fn first_letters(text: &[u8]) -> &[u8]
     text
 }
 
-/// Returns whether a word is one of ours, ignoring case.
+/// Returns whether the word is one of ours, ignoring case.
 fn is_count_office_word(word: &[u8]) -> bool
     ensures { result ≡ is_count_office_word word.now }
 {
@@ -37,7 +37,7 @@ fn is_count_office_word(word: &[u8]) -> bool
         || (word.eq_ignore_ascii_case(b"Rejected") || word.eq_ignore_ascii_case(b"Lot"))
 }
 
-/// Returns whether a comment begins with one of our words.
+/// Returns whether the comment begins with one of our words.
 fn begins_as_ours(comment: &[u8]) -> bool
     ensures { result ≡ begins_as_ours comment.now }
 {

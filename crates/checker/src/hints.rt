@@ -30,7 +30,7 @@ pub(crate) fn hint_of(text: &[u8]) -> Option<Hint>
     None
 }
 
-/// Returns whether a text is nonempty and doesn't end with a line feed.
+/// Returns whether the text is nonempty and doesn't end with a line feed.
 fn is_unended(text: &[u8]) -> bool
     ensures { result ≡ is_unended text.now }
 {
@@ -40,7 +40,7 @@ fn is_unended(text: &[u8]) -> bool
     }
 }
 
-/// Returns whether a text begins with a byte order mark.
+/// Returns whether the text begins with a byte order mark.
 fn is_marked(text: &[u8]) -> bool
     ensures { result ≡ is_marked text.now }
 {

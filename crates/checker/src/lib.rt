@@ -3,8 +3,8 @@
 //!
 //! [`check`] reads the ballots, as printed by `ballots` or as written by other counting programs (BLT), counts them to the end with
 //! the recorded lots, and compares. A [`Problem`] is the line of the ballots that isn't understood, or the lot that is missing.
-//! [`count_ballots`] counts them in the same way, and returns a [`CountText`] of the count. [`run`] executes the request in the
-//! program's arguments: it reads the files through an [`InputFiles`], and prints the outcome on two outputs.
+//! [`count_ballots`] counts them the same way, and returns a [`CountText`] of the count. [`run`] executes the request in the
+//! program's arguments: it reads the files through an [`InputFiles`], and prints the outcome to two outputs.
 //!
 //! ```text
 //! match check(alloc, ballots, text)? {
@@ -29,7 +29,7 @@ mod names;
 mod papers;
 mod ranks;
 mod reading;
-// the same for cast-vote records
+// the content of cast-vote records so far, and what each line adds to it
 mod fields;
 mod rank_fields;
 mod ranked_paper;

@@ -20,7 +20,7 @@ fn is_lot(due: &Due) -> bool
     }
 }
 
-/// Returns whether a lot is drawn for a stage, given what is due before the first stages.
+/// Returns whether a lot is drawn for the given stage, given what is due before the first stages.
 fn is_drawn_by(dues: &[Due], stage: u8) -> bool
     ensures { result ≡ is_drawn_by dues.now stage }
 {
@@ -42,7 +42,7 @@ pub(crate) fn undrawn_by(dues: &[Due], lots: &[(u8, u8)]) -> Option<u8>
     None
 }
 
-/// Returns the position for a stage's lot in a list of lots ordered by stage.
+/// Returns the position for the given stage's lot in a list of lots ordered by stage.
 fn place_in(stage: u8, lots: &[(u8, u8)]) -> usize
     ensures is { result ≡ place_in stage lots.now }
     ensures few { result ≤ length lots.now }

@@ -14,7 +14,7 @@ use std::str;
 /// The maximum length of a name in bytes. A sheet contains every name at every stage, so longer names would make it very large.
 pub(crate) const MAX_NAME: usize = 1000;
 
-/// The position of the next byte in a line with a name.
+/// The position of the next byte in a line that contains a name.
 #[derive(Clone, Copy)]
 pub(crate) enum Within {
     /// Before the opening quotation mark.

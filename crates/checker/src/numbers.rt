@@ -5,7 +5,7 @@ ghost use Rattle.checker.specs.Numbers.{candidate_in, number_in, with_digit};
 
 use crate::problem::BallotsFlaw;
 
-/// Appends a digit to a number, which may be at most `most`.
+/// Appends a digit to a number, which must not exceed `most`.
 fn with_digit(most: u32, number: u32, byte: u8) -> Result<u32, BallotsFlaw>
     ensures is { result ≡ with_digit most number byte }
     ensures few { IfOk result (λ n. n ≤ most) }

@@ -54,7 +54,7 @@ fn withdrawn_in(highest: u8, word: &[u8]) -> Result<u8, BallotsFlaw>
     }
 }
 
-/// Adds the withdrawn candidates in the given words to a set.
+/// Adds the withdrawn candidates in the given words to the set.
 fn withdrawn_from(highest: u8, withdrawn: Columns, words: &[&[u8]]) -> Result<Columns, BallotsFlaw>
     requires { highest ≤ max_candidates }
     ensures { result ≡ withdrawn_from highest withdrawn (map (λ w. w.now) words.now) }
@@ -109,7 +109,7 @@ impl PaperTotals {
         Ok(Ok(()))
     }
 
-    /// Adds a bundle: the number of its papers, and their preferences.
+    /// Adds a bundle, given the number of its papers and their preferences.
     pub(crate) fn take_bundle(
         &mut self,
         alloc: Global,

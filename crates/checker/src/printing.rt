@@ -8,7 +8,7 @@ use crate::report::{FAILED, Report, page_of};
 use std::alloc::Global;
 use streams::{Broken, Sink, put_all};
 
-/// Prints that the output failed.
+/// Prints a line saying that the output failed.
 fn print_broken<E: Sink>(err: &mut E) -> u8
     requires { E.failed err.old < 2 ^ 64 - 1 }
     ensures told { let output = output_of E.taken E.failed in Took (output err.old) (output err.new) broken_line ⊎ BrokeOff (output err.old) (output err.new) broken_line }
@@ -18,7 +18,7 @@ fn print_broken<E: Sink>(err: &mut E) -> u8
     FAILED
 }
 
-/// Prints a text on the output, and another on the error output. Returns the status, or 3 if an output fails.
+/// Prints one text to the output and another to the error output. Returns the status, or 3 if an output fails.
 fn print_page<O: Sink, E: Sink>(
     text: &str,
     message: &str,
@@ -41,7 +41,7 @@ fn print_page<O: Sink, E: Sink>(
     }
 }
 
-/// Prints an outcome and returns its status. If an allocation fails, prints that instead.
+/// Prints an outcome and returns its status. If an allocation fails, prints a message saying so instead.
 pub(crate) fn print_report<O: Sink, E: Sink>(
     alloc: Global,
     report: Report,

@@ -37,9 +37,9 @@ pub enum BallotsFlaw {
     LongName,
     /// A name isn't UTF-8.
     NotUtf8,
-    /// The line comes after the name of the ward.
+    /// The line follows the name of the ward.
     BehindName,
-    /// The comment doesn't contain the number of a ward.
+    /// The comment doesn't contain a ward number.
     Ward,
     /// The comment doesn't contain the number of rejected papers for each code.
     Rejected,
@@ -82,7 +82,7 @@ pub enum BallotsFlaw {
 impl BallotsFlaw {
     ghost use Rattle.checker.specs.Texts.{flaw_text};
 
-    /// Returns the flaw in words.
+    /// Returns a description of the flaw.
     fn text(&self) -> &'static str
         ensures { result.now ≡ flaw_text self.now }
     {
@@ -144,15 +144,15 @@ impl Error for BallotsFlaw {}
 /// The reason why a text can't be checked against ballots.
 #[derive(Clone, Copy, Debug)]
 pub enum Problem {
-    /// A line of the ballots, counted from 1, has this flaw.
+    /// Line `line` of the ballots, counted from 1, has the flaw `flaw`.
     Line { line: u64, flaw: BallotsFlaw },
     /// There are papers, or rejected papers, but not more candidates than seats.
     NoContest,
-    /// These candidates are tied at this stage, and no lot is recorded.
+    /// The candidates in `among` are tied at stage `stage`, and no lot is recorded.
     LotNeeded { stage: u8, among: Columns },
-    /// The lot recorded for this stage names none of the tied candidates.
+    /// The lot recorded for stage `stage` names none of the tied candidates.
     LotNotAmong { stage: u8 },
-    /// A lot is recorded for this stage, but no lot is drawn there.
+    /// A lot is recorded for stage `stage`, but no lot is drawn there.
     LotNotNeeded { stage: u8 },
     /// An allocation failed.
     Memory,

@@ -12,11 +12,11 @@ use crate::problem::BallotsFlaw;
 use crate::ranked_paper::RankedPaper;
 use std::alloc::{AllocError, Global};
 
-/// The length of a name, in bytes, for which room is reserved at the start. Longer names need further allocations.
+/// The name length, in bytes, for which space is reserved at the start. Longer names need further allocations.
 const USUAL_NAME: usize = 64;
 
-/// A line as far as it has been read: the paper in the fields so far or the flaw found in them, the bytes of the next field, and
-/// the position of the next byte.
+/// A line as far as it has been read: the paper in the fields read so far, or the flaw found in them, the bytes of the next field,
+/// and the position of the next byte.
 #[derive(Drop)]
 pub(crate) struct RankReader {
     paper: RankedPaper,

@@ -38,7 +38,7 @@ impl Model for RankedPaper {
     ghost invariant = { λ a. IsRanking a.preferences.items };
 }
 
-/// Returns whether a field names the candidate with this number and this name.
+/// Returns whether the field names the candidate with the given number and name.
 fn is_of(field: &[u8], c: u8, name: &str) -> bool
     ensures { result ≡ is_of field.now c name.now }
 {
@@ -51,7 +51,7 @@ fn is_of(field: &[u8], c: u8, name: &str) -> bool
     }
 }
 
-/// Returns the only candidate that a field names, by number or by name.
+/// Returns the only candidate that the field names, by number or by name.
 fn candidate_named(names: &[String], field: &[u8]) -> Result<u8, BallotsFlaw>
     requires { length names.now ≤ max_candidates }
     ensures is { result ≡ candidate_named (map string_bytes names.now) field.now }
@@ -75,7 +75,7 @@ fn candidate_named(names: &[String], field: &[u8]) -> Result<u8, BallotsFlaw>
     }
 }
 
-/// Returns whether a candidate is in a list.
+/// Returns whether the candidate is in the list.
 fn is_among(c: u8, list: &[u8]) -> bool
     ensures { result ≡ list_any (λ d. d == c) list.now }
 {

@@ -33,14 +33,14 @@ pub(crate) struct Ranks {
     next: NextWord,
 }
 
-/// Returns whether a word is the 0 that ends a line.
+/// Returns whether the word is the 0 that ends a line.
 pub(crate) fn is_zero(word: &[u8]) -> bool
     ensures { result ≡ is_zero word.now }
 {
     word == b"0".as_slice()
 }
 
-/// Returns whether a word has no equals sign, so it is the number of a candidate who doesn't share a rank.
+/// Returns whether the word has no equals sign, so it is the number of a candidate who doesn't share a rank.
 fn is_alone(word: &[u8]) -> bool
     ensures { not result ≡ list_any (parts Separator.Equals) word.now }
 {
@@ -52,7 +52,7 @@ fn is_alone(word: &[u8]) -> bool
     true
 }
 
-/// Returns how many of the candidates in these words haven't withdrawn.
+/// Returns how many of the candidates in the given words haven't withdrawn.
 fn standing_in(highest: u8, withdrawn: &Columns, words: &[&[u8]]) -> Result<usize, BallotsFlaw>
     ensures { result ≡ standing_from highest withdrawn.now 0 (map (λ w. w.now) words.now) }
 {
@@ -202,7 +202,7 @@ impl Ranks {
     }
 }
 
-/// Returns the candidates in the words after a number of papers, in order, up to a shared rank or the 0.
+/// Returns the candidates in the words that follow a number of papers, in order, up to a shared rank or the 0.
 pub(crate) fn named_in(
     alloc: Global,
     highest: u8,

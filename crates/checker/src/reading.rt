@@ -42,7 +42,7 @@ fn words_before_comment(
     Ok(Ok(pieces_of(alloc, Separator::Blank, before_comment(line))?))
 }
 
-/// Returns whether a line of numbers is the `0` that ends the papers.
+/// Returns whether the line of numbers is the `0` that ends the papers.
 fn is_end_line(words: &[&[u8]]) -> bool
     ensures { result ≡ is_end_line (map (λ w. w.now) words.now) }
 {
@@ -52,7 +52,7 @@ fn is_end_line(words: &[&[u8]]) -> bool
     }
 }
 
-/// Returns whether a line of numbers begins with a minus.
+/// Returns whether the line of numbers begins with a minus.
 fn is_withdrawn_line(words: &[&[u8]]) -> bool
     ensures { result ≡ is_withdrawn_line (map (λ w. w.now) words.now) }
 {
@@ -115,7 +115,7 @@ impl Reader {
         Ok(Ok(()))
     }
 
-    /// Processes a line of withdrawn candidates, or one of papers.
+    /// Processes a line of withdrawn candidates, or a line of papers.
     fn take_withdrawn_line(
         &mut self,
         alloc: Global,
@@ -204,7 +204,7 @@ impl Reader {
     }
 }
 
-/// Reads some lines. The problem is the first of them that isn't understood, or a failed allocation.
+/// Reads the given lines. The problem is the first of them that isn't understood, or a failed allocation.
 fn read_lines(alloc: Global, lines: &[&[u8]]) -> Result<Reader, Problem>
     ensures ok { IfOk result (λ reader. read_from 0 nothing_told (map (λ line. line.now) lines.now) ≡ Ok (reading_of reader)) }
     ensures err { IfErr result (λ problem. IsFlawOf (read_from 0 nothing_told (map (λ line. line.now) lines.now)) problem) }

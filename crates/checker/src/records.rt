@@ -60,7 +60,7 @@ fn without_return(line: &[u8]) -> &[u8]
     }
 }
 
-/// Returns the numbers of this many candidates.
+/// Returns the set of the candidate numbers 1 to `names`.
 fn columns_of(names: usize) -> Columns
     requires { names ≤ max_candidates }
     ensures { result ≡ range_with_len 1 names }
@@ -167,7 +167,7 @@ impl Records {
         }
     }
 
-    /// Adds papers as keyed. Doubtful ones are an error.
+    /// Adds papers as keyed. Doubtful papers are an error.
     fn add_keyed(
         &mut self,
         papers: u32,
@@ -280,7 +280,7 @@ impl Records {
         }
     }
 
-    /// Returns the reader that would have resulted if the ward's ballots, with this name, had been read.
+    /// Returns the reader that would have resulted if the ward's ballots, with the given name, had been read.
     fn into_reader(self, alloc: Global, name: String) -> Reader
         ensures { reading_of result ≡ as_read (string_bytes name) (records_told self) }
     {
@@ -315,7 +315,7 @@ fn papers_for(alloc: Global, seats: u8, highest: u8) -> PaperTotals
     }
 }
 
-/// Reads some lines. The problem is the first of them that isn't understood, or a failed allocation.
+/// Reads the given lines. The problem is the first of them that isn't understood, or a failed allocation.
 fn records_in(alloc: Global, ward: &RecordsWard, lines: &[&[u8]]) -> Result<Records, Problem>
     ensures ok { IfOk result (λ records. records_from 0 (nothing_recorded (ward_told ward.now)) (map (λ line. line.now) lines.now) ≡ Ok (records_told records)) }
     ensures err { IfErr result (λ problem. IsFlawOf (records_from 0 (nothing_recorded (ward_told ward.now)) (map (λ line. line.now) lines.now)) problem) }

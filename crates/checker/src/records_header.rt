@@ -28,7 +28,7 @@ fn is_counted(fields: &[Vec<u8>]) -> bool
     }
 }
 
-/// Returns the other columns.
+/// Returns the fields of the other columns.
 fn candidate_fields(fields: &[Vec<u8>]) -> &[Vec<u8>]
     ensures { map (λ field. field.items) result.now ≡ candidate_fields (map (λ field. field.items) fields.now) }
 {
@@ -44,7 +44,7 @@ fn candidate_fields(fields: &[Vec<u8>]) -> &[Vec<u8>]
     }
 }
 
-/// Returns whether a word, ignoring case, is one that often names a column for something other than a candidate.
+/// Returns whether the word, ignoring case, is one that often names a column for something other than a candidate.
 fn is_title(word: &[u8]) -> bool
     ensures { result ≡ is_title word.now }
 {
@@ -60,7 +60,7 @@ fn is_title(word: &[u8]) -> bool
                                         || word.eq_ignore_ascii_case(b"ballots")))))))))
 }
 
-/// Returns whether the name of a column suggests something other than a candidate.
+/// Returns whether the name of the column suggests something other than a candidate.
 fn is_titled(field: &[u8]) -> bool
     ensures { result ≡ is_titled field.now }
 {
@@ -130,7 +130,7 @@ fn after_rank(field: &[u8]) -> &[u8]
     }
 }
 
-/// Returns whether a column is for this rank.
+/// Returns whether the column is for the given rank.
 fn is_rank(rank: u8, field: &[u8]) -> bool
     ensures { result ≡ is_rank rank field.now }
 {

@@ -1,4 +1,4 @@
-//! The outcome of the program's arguments, as text and exit status.
+//! The outcome of running the program, as text and exit status.
 
 ghost use Rattle.std.specs.Prelude.{◌≡◌, IfOk, option_map, string_bytes};
 ghost use Rattle.checker.specs.Pages.{page_told};
@@ -29,7 +29,7 @@ const NOT_CHECKED: u8 = 2;
 /// A file can't be read, an allocation fails, or an output fails.
 pub(crate) const FAILED: u8 = 3;
 
-/// The outcome of the program's arguments.
+/// The outcome of running the program.
 #[derive(Drop)]
 pub enum Report {
     /// Help is requested.
@@ -42,21 +42,21 @@ pub enum Report {
     Misread(WordsFlaw),
     /// An argument isn't UTF-8.
     NotUtf8,
-    /// The file at this path can't be read, for this reason.
+    /// The file at `path` can't be read; `why` is the reason.
     NotRead {
         path: String,
         why: String,
     },
-    /// The check had this outcome, and the text has this invisible difference, if any.
+    /// The check had the outcome `checked`, and the text has the invisible difference `hint`, if any.
     Checked {
         checked: Checked,
         hint: Option<Hint>,
     },
-    /// The check wasn't possible because of this problem.
+    /// The check wasn't possible because of the given problem.
     Hindered(Problem),
     /// The ballots were counted.
     Counted(CountedText),
-    /// The ballots weren't counted, for this reason.
+    /// The ballots weren't counted, for the given reason.
     NotCounted(CountProblem),
 }
 
@@ -241,7 +241,7 @@ pub(crate) struct Page {
     pub(crate) status: u8,
 }
 
-/// Returns the page for a text and a status. The text goes to the output if the status is 0, otherwise to the error output.
+/// Returns the page for the given text and status. The text goes to the output if the status is 0, otherwise to the error output.
 fn page_with(alloc: Global, status: u8, text: String) -> Page
     ensures { page_told result ≡ page_with status (string_bytes text) }
 {
@@ -260,7 +260,7 @@ fn page_with(alloc: Global, status: u8, text: String) -> Page
     }
 }
 
-/// Returns the page for a fixed text and a status; `AllocError` if an allocation fails.
+/// Returns the page for the given fixed text and status; `AllocError` if an allocation fails.
 fn page_of_text(alloc: Global, status: u8, text: &str) -> Result<Page, AllocError>
     ensures { IfOk result (λ page. page_told page ≡ page_with status text.now) }
 {

@@ -131,7 +131,7 @@ fn lot_in_word(alloc: Global, word: &str) -> Result<Option<(u8, u8)>, AllocError
     Ok(lot_of(&words))
 }
 
-/// Returns whether a word begins with a hyphen and isn't just a hyphen.
+/// Returns whether the word begins with a hyphen and isn't just a hyphen.
 fn is_option(word: &str) -> bool
     ensures { result ≡ is_option word.now }
 {
@@ -158,7 +158,7 @@ impl<'a> CountWords<'a> {
         }
     }
 
-    /// Stores which text is requested.
+    /// Stores the requested text.
     fn take_text(&mut self, text: TextOption) -> Result<(), WordsFlaw>
         ensures { done_as result (words_told self.new) ≡ with_text (words_told self.old) text }
     {

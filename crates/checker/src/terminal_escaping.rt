@@ -5,7 +5,7 @@ ghost use Rattle.checker.specs.Reports.{shown, shown_character, steers};
 
 use std::alloc::{AllocError, Global};
 
-/// Returns whether a character controls a terminal or the writing direction.
+/// Returns whether the character controls a terminal or the writing direction.
 fn steers(character: char) -> bool
     ensures { result ≡ steers character }
 {

@@ -5,7 +5,8 @@ ghost use Rattle.checker.specs.Tokens.{behind_byte_order_mark, is_blank, kind_of
 
 use std::alloc::{AllocError, Global};
 
-/// The number of pieces for which room is reserved at the start, enough for the words of a usual line. More need further allocations.
+/// The number of pieces for which space is reserved at the start, enough for the words of a typical line. More pieces need further
+/// allocations.
 const USUAL_PIECES: usize = 16;
 
 /// The separator at which a text is split.
@@ -34,14 +35,14 @@ pub(crate) enum LineKind {
     Content,
 }
 
-/// Returns whether a byte is a space, a tab, or a carriage return.
+/// Returns whether the byte is a space, a tab, or a carriage return.
 pub(crate) fn is_blank(byte: u8) -> bool
     ensures { result ≡ is_blank byte }
 {
     byte == b' ' || (byte == b'\t' || byte == b'\r')
 }
 
-/// Returns whether a byte separates two pieces.
+/// Returns whether the byte separates two pieces.
 fn parts(separator: Separator, byte: u8) -> bool
     ensures { result ≡ parts separator byte }
 {
@@ -54,7 +55,7 @@ fn parts(separator: Separator, byte: u8) -> bool
     }
 }
 
-/// Appends one piece; between two blanks there is no word.
+/// Appends one piece; an empty piece between two blanks isn't a word.
 fn with_piece<'a>(
     mut pieces: Vec<&'a [u8]>,
     separator: Separator,

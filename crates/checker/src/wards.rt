@@ -13,7 +13,7 @@ use paper::Columns;
 use sheet::{Poll, Ward};
 use std::alloc::{AllocError, Global};
 
-/// A ward, the bundles of its papers, and the lots with which it is counted, each a stage, counted from 1, and a candidate.
+/// A ward, the bundles of its papers, and the lots with which it is counted. Each lot is a stage, counted from 1, and a candidate.
 #[derive(Clone, Copy)]
 pub(crate) struct Election<'a> {
     pub(crate) ward: Ward<'a>,

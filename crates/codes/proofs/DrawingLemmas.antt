@@ -41,7 +41,7 @@ pub draw_none : (old new : Option (List ℕ)) (byte : ℕ) (before : List ℕ)
 draw_none old new byte before drew is =
     record { byte = byte; drew = drew; letters = sym (append-nil before) ∙ ap (λ (o : Option ℕ). before ++ cons_option o []) is }
 
--- this many of the maximum number of bytes are left to be drawn, and the bytes drawn so far yield these letters
+-- the given number of bytes are left to be drawn, out of the maximum, and the bytes drawn so far yield the given letters
 pub record IsDrawing (old new : Option (List ℕ)) (letters : List ℕ) (most left : ℕ) : Type 0 where
   pub own : List ℕ
   pub drew : new ≡ append_known old own
@@ -91,7 +91,7 @@ text_drawn clerks office old new letters text it is =
       is = is ∙ ap (text_with clerks office) it.are;
     }
 
--- this many of the maximum number of texts are left to be drawn, and none of those drawn so far is a file of codes
+-- the given number of texts are left to be drawn, out of the maximum, and none of those drawn so far is a codes file
 pub record HasDrawn (clerks : ClerkRange) (office : Bool) (old new : Option (List ℕ)) (left : ℕ) : Type 0 where
   pub earlier : List (List ℕ)
   pub drew : new ≡ append_known old (concat earlier)

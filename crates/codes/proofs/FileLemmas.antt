@@ -104,7 +104,8 @@ office_of_alone : (found : Result (List CodeEntry) CodesFault) → office_by (fi
 office_of_alone (Err fault) = refl
 office_of_alone (Ok entries) = refl
 
--- without a line for the office, a file contains exactly what its clerks' lines contain by themselves, and has the same first wrong line; and the office has no code
+-- without a line for the office, a file contains exactly what its clerks' lines contain on their own, and has the same first invalid line; and the office has no
+-- code
 pub text_alone : (text : List ℕ) → list_any (λ (line : List ℕ). is_office_line (without_return line)) (lines_from [] text) ≡ false
     → (codes_in text ≡ alone_from 1 [] (lines_from [] text)) × (office_in text ≡ None)
 text_alone text none =

@@ -31,9 +31,9 @@ clerks_apart code (e ∷ entries) long made =
     let short : length e.code ≡ 14 = same_number (length e.code) 14 (and_parts (length e.code == 14) _ parts.0).0 in
     rw (unlike e.code code short long) (clerks_apart code entries long parts.1)
 
--- ---- what it means that a file passes the test
+-- ---- what it means for a file to pass the test
 
--- a text that passes the test is a file of codes for these clerks,
+-- a text that passes the test is a codes file for the given clerks,
 of_clerks : (clerks : ClerkRange) (office : Bool) (text : List ℕ) (file : FileEntry) → file_in text ≡ Ok file
     → is_file_for clerks office (Ok file) ≡ true → IsMadeFor (clerks_of clerks) text
 of_clerks clerks office text file same is =

@@ -40,7 +40,7 @@ lines_end first index count letters done =
     let none : count - index ≡ 0 = omega (arith, done) in
     ap (λ n. text_of (numbers (first + index) n) letters) none
 
--- one more line was written
+-- another line was written
 pub one_line : (first index count : ℕ) (before after all rest own others : List ℕ) → index < count → own ≡ take code_letters rest → others ≡ drop code_letters rest
     → after ≡ before ++ line_of (first + index) own → before ++ text_of (numbers (first + index) (count - index)) rest ≡ all
     → after ++ text_of (numbers (first + (index + 1)) (count - (index + 1))) others ≡ all
@@ -53,7 +53,7 @@ one_line first index count before after all rest own others there is behind grow
     ∙ ap (λ (ls : List ℕ). before ++ ls) (sym (lines_next first index count rest there))
     ∙ it
 
--- all lines were written
+-- all the lines were written
 pub all_lines : (first index count : ℕ) (text all rest : List ℕ) → count ≤ index → text ++ text_of (numbers (first + index) (count - index)) rest ≡ all → text ≡ all
 all_lines first index count text all rest done it =
     sym (append-nil text) ∙ ap (λ (ls : List ℕ). text ++ ls) (sym (lines_end first index count rest done)) ∙ it
@@ -62,7 +62,7 @@ all_lines first index count text all rest done it =
 pub joined : (text front a hyphen b c end : List ℕ) → ((((((text ++ front) ++ a) ++ hyphen) ++ b) ++ hyphen) ++ c) ++ end ≡ text ++ ((((((front ++ a) ++ hyphen) ++ b) ++ hyphen) ++ c) ++ end)
 joined text front a hyphen b c end = simp append_assoc refl
 
--- the same for the office's code, and for its line
+-- the same holds for the office's code, and for its line
 pub groups_joined : (text a hyphen b c d : List ℕ)
     → ((((((text ++ a) ++ hyphen) ++ b) ++ hyphen) ++ c) ++ hyphen) ++ d ≡ text ++ ((((((a ++ hyphen) ++ b) ++ hyphen) ++ c) ++ hyphen) ++ d)
 groups_joined text a hyphen b c d = simp append_assoc refl

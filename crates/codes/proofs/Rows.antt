@@ -1,4 +1,4 @@
--- Computed examples of files of codes: what is read from them, which credentials are accepted, and which file is made.
+-- Computed examples of codes files: what is read from them, which credentials are accepted, and which file is made.
 use Rattle.std.proofs.Common.{◌≡◌, ℕ, true, false, List, [], ◌∷◌, codes, None, Some, Ok, Err, refl}
 use Rattle.std.specs.Fmt.{digits}
 use Rattle.base64.specs.Rfc4648.{encode_symbols}
@@ -33,7 +33,7 @@ twelve_and_signs = refl
 fifteen : file_in (codes "office abcd-efgh-jkmn-prs") ≡ Err (Line 1 ShortOffice)
 fifteen = refl
 
--- a code as it is made for a clerk is too short for the office
+-- a code made for a clerk is too short for the office
 twelve : file_in (codes "4 kf7m-2wxt\noffice kf7m-2wxt-h4dn\n") ≡ Err (Line 2 ShortOffice)
 twelve = refl
 
@@ -100,7 +100,7 @@ offices_code_for_clerk = refl
 abbrev four_and_five : ClerkRange
 four_and_five = record { first = 4; last = 5 }
 
--- the seventh of these bytes selects no letter
+-- the seventh byte selects no letter
 abbrev bytes : List ℕ
 bytes =
     0 ∷ 1 ∷ 2 ∷ 3 ∷ 24 ∷ 239 ∷ 240 ∷ 5 ∷ 6 ∷ 20 ∷ 21 ∷ 22 ∷ 23 ∷ 8 ∷ 9 ∷ 10 ∷ 11 ∷ 12 ∷ 13 ∷ 14 ∷ 15 ∷ 16 ∷ 17 ∷ 18 ∷ 19

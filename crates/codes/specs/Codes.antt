@@ -34,7 +34,7 @@ holder c = record { clerk = c.clerk; text = string_bytes c.basic.text }
 abbrev pub holders_of : Codes → List Holder
 holders_of held = map holder held.all.items
 
--- whether a text is the credentials of this clerk
+-- whether a text is the credentials of the given clerk
 abbrev pub is_of : List Holder → ℕ → List ℕ → Bool
 is_of holders clerk text = list_any (λ (h : Holder). (h.clerk == clerk) && bytes_eq text h.text) holders
 

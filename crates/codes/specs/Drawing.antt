@@ -19,18 +19,18 @@ most_files = 100
 
 -- ---- files
 
--- whether bytes yield exactly the letters for these codes, but their text isn't a file of codes, for example because it contains a code twice
+-- whether bytes yield exactly the letters for the given codes, but their text isn't a codes file, for example because it contains a code twice
 abbrev pub is_vain : ClerkRange → Bool → List ℕ → Bool
 is_vain clerks office bytes = (length (letters_drawn bytes) == letters_with clerks office) && not (is_file_for clerks office (file_in (text_with clerks office (letters_drawn bytes))))
 
--- A text was made of the bytes drawn, that is, of all letters that they select, in order, and of nothing else.
+-- A text was made from the bytes drawn, that is, from all the letters that they select, in order, and from nothing else.
 pub record IsDrawn (clerks : ClerkRange) (office : Bool) (old new : Option (List ℕ)) (text : List ℕ) : Type 0 where
   pub own : List ℕ
   pub drew : new ≡ append_known old own
   pub enough : length (letters_drawn own) ≡ letters_with clerks office
   pub is : text ≡ text_with clerks office (letters_drawn own)
 
--- A text was made of the last bytes drawn in this way, and the bytes drawn before didn't make a file of codes.
+-- A text was made this way from the last bytes drawn, and the bytes drawn before them didn't yield a codes file.
 pub record IsMadeByDraws (clerks : ClerkRange) (office : Bool) (old new : Option (List ℕ)) (text : List ℕ) : Type 0 where
   pub earlier : List (List ℕ)
   pub own : List ℕ
@@ -39,7 +39,7 @@ pub record IsMadeByDraws (clerks : ClerkRange) (office : Bool) (old new : Option
   pub enough : length (letters_drawn own) ≡ letters_with clerks office
   pub is : text ≡ text_with clerks office (letters_drawn own)
 
--- the same for a file without a code for the office
+-- the same holds for a file without a code for the office
 abbrev pub IsMadeOf : ClerkRange → Option (List ℕ) → Option (List ℕ) → List ℕ → Type 0
 IsMadeOf clerks old new text = IsMadeByDraws clerks false old new text
 
@@ -51,7 +51,7 @@ pub record IsDraw (old new : Option (List ℕ)) (before after : List ℕ) : Type
   pub drew : new ≡ append_known old (byte ∷ [])
   pub letters : after ≡ before ++ letters_drawn (byte ∷ [])
 
--- bytes were drawn that yield exactly these letters, as many as these codes have
+-- bytes were drawn that yield exactly the given letters, as many as the codes have
 pub record AreDrawn (clerks : ClerkRange) (office : Bool) (old new : Option (List ℕ)) (letters : List ℕ) : Type 0 where
   pub own : List ℕ
   pub drew : new ≡ append_known old own
@@ -84,7 +84,7 @@ IsUnwritten clerks office failed failed_then old new (Fault NoRandom) = failed_t
 IsUnwritten clerks office failed failed_then old new (Fault BadRandom) = (failed_then ≡ failed) × IsShort clerks office old new
 IsUnwritten clerks office failed failed_then old new (Fault other) = ⊥
 
--- Bytes were drawn but made no codes: either the last of them yield too few letters, or the maximum number of texts was tried and none of them is a file of codes.
+-- Bytes were drawn but yielded no codes: either the last of them yield too few letters, or the maximum number of texts was tried and none of them is a codes file.
 pub record IsInVain (clerks : ClerkRange) (office : Bool) (old new : Option (List ℕ)) : Type 0 where
   pub earlier : List (List ℕ)
   pub own : List ℕ
@@ -92,13 +92,13 @@ pub record IsInVain (clerks : ClerkRange) (office : Bool) (old new : Option (Lis
   pub vain : list_all (is_vain clerks office) earlier ≡ true
   pub ends : ((length earlier ≡ most_files) × (own ≡ [])) ⊎ AreTooFew clerks office own
 
--- the reason why no codes were made: an allocation or a draw failed, or the bytes drawn made no codes
+-- the reason why no codes were made: an allocation or a draw failed, or the bytes drawn yielded no codes
 abbrev pub IsUnmadeByDraws : ClerkRange → Bool → ℕ → ℕ → Option (List ℕ) → Option (List ℕ) → CodesError → Type 0
 IsUnmadeByDraws clerks office failed failed_then old new Memory = failed_then ≡ failed
 IsUnmadeByDraws clerks office failed failed_then old new (Fault NoRandom) = failed_then ≡ failed + 1
 IsUnmadeByDraws clerks office failed failed_then old new (Fault BadRandom) = (failed_then ≡ failed) × IsInVain clerks office old new
 IsUnmadeByDraws clerks office failed failed_then old new (Fault other) = ⊥
 
--- the same without a code for the office
+-- the same reason, without a code for the office
 abbrev pub IsUnmade : ClerkRange → ℕ → ℕ → Option (List ℕ) → Option (List ℕ) → CodesError → Type 0
 IsUnmade clerks failed failed_then old new why = IsUnmadeByDraws clerks false failed failed_then old new why

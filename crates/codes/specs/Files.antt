@@ -1,4 +1,4 @@
--- A file of codes. It has one line per clerk, with the clerk's number, a space, and the code; and at most one line for the office, with its name instead of a
+-- A codes file. It has one line per clerk, with the clerk's number, a space, and the code; and at most one line for the office, with its name instead of a
 -- number.
 use Rattle.std.specs.Prelude.{◌∷◌, ◌++◌, ◌+◌, ◌-◌, ◌*◌, ◌==◌, ◌&&◌, ◌||◌, Bool, false, List, [], Option, Some, None, Result, Ok, Err}
 use Rattle.std.specs.Prelude.{bytes_eq, count_by, drop, if◌then◌else◌, is_some, length, map, nat_le, nat_lt, not, option_and_then, option_map, slice_index, take, ℕ}
@@ -25,7 +25,7 @@ most_code_bytes = 64
 abbrev pub is_visible : ℕ → Bool
 is_visible byte = nat_lt 32 byte && nat_lt byte 127
 
--- whether a text is a code: 8 to 64 of these
+-- whether a text is a code: 8 to 64 such bytes
 abbrev pub is_code : List ℕ → Bool
 is_code text = nat_le fewest_code_bytes (length text) && (nat_le (length text) most_code_bytes && list_all is_visible text)
 
@@ -111,7 +111,7 @@ entry_in line = entry_by (clerk_in (front_of line)) (rest_of line)
 
 -- ---- a line after others
 
--- the contents of a file of codes: the codes of clerks, and the office's, if there is a line for the office
+-- the contents of a codes file: the codes of clerks, and the office's, if there is a line for the office
 pub record FileEntry : Type 0 where
   pub clerks : List CodeEntry
   pub office : Option (List ℕ)
@@ -123,12 +123,12 @@ file_entry lines = record { clerks = map code_entry lines.clerks.items; office =
 abbrev pub no_codes : FileEntry
 no_codes = record { clerks = []; office = None }
 
--- whether the office has this code
+-- whether the office has the given code
 abbrev pub is_offices : Option (List ℕ) → List ℕ → Bool
 is_offices None code = false
 is_offices (Some own) code = bytes_eq own code
 
--- whether a clerk or the office has this code
+-- whether a clerk or the office has the given code
 abbrev pub has_code : FileEntry → List ℕ → Bool
 has_code before code = list_any (λ other. bytes_eq other.code code) before.clerks || is_offices before.office code
 
@@ -148,36 +148,36 @@ office_behind before code =
     (if is_some before.office then Err OfficeTwice else
     (if has_code before code then Err CodeTwice else Ok code)))
 
--- the codes together with those of one more line, which is a clerk's
+-- the codes together with the one in another line, which is a clerk's
 abbrev pub with_clerk : FileEntry → Result CodeEntry CodeFlaw → Result FileEntry CodeFlaw
 with_clerk before (Err flaw) = Err flaw
 with_clerk before (Ok entry) = Ok (record { clerks = before.clerks ++ entry ∷ []; office = before.office })
 
--- the same for the office's line
+-- the same, if the line is the office's
 abbrev pub with_office : FileEntry → Result (List ℕ) CodeFlaw → Result FileEntry CodeFlaw
 with_office before (Err flaw) = Err flaw
 with_office before (Ok code) = Ok (record { clerks = before.clerks; office = Some code })
 
--- the same for any line
+-- the same, for any line
 abbrev pub with_line : FileEntry → List ℕ → Result FileEntry CodeFlaw
 with_line before line =
     if is_office_line line then with_office before (office_behind before (rest_of line)) else with_clerk before (entry_behind before (entry_in line))
 
 -- ---- all lines
 
--- the result continues after a line, or ends with what is wrong with the line of this number
+-- the result continues after a line, or ends with what is wrong with the line with the given number
 abbrev pub file_by : (FileEntry → Result FileEntry CodesFault) → ℕ → Result FileEntry CodeFlaw → Result FileEntry CodesFault
 file_by others number (Err flaw) = Err (fault.Line number flaw)
 file_by others number (Ok before) = others before
 
--- the codes in the lines from a given number on, added to those before them; empty lines are skipped
+-- the codes in the lines from the given number on, added to the codes before them; empty lines are skipped
 abbrev pub file_from : ℕ → FileEntry → List (List ℕ) → Result FileEntry CodesFault
 file_from number before [] = Ok before
 file_from number before (line ∷ lines) =
     if length (without_return line) == 0 then file_from (number + 1) before lines else
     file_by (λ all. file_from (number + 1) all lines) number (with_line before (without_return line))
 
--- the codes in the text of a file, or a fault for the first line that is wrong
+-- the codes in the text of a file, or a fault for the first invalid line
 abbrev pub file_in : List ℕ → Result FileEntry CodesFault
 file_in text = file_from 1 no_codes (lines_from [] text)
 
@@ -202,7 +202,7 @@ abbrev pub weak_clerks : List CodeEntry → List ℕ
 weak_clerks [] = []
 weak_clerks (entry ∷ entries) = if is_strong entry.code then weak_clerks entries else entry.clerk ∷ weak_clerks entries
 
--- the holders of the codes in these entries
+-- the holders of the codes in the given entries
 abbrev pub holders_by : List CodeEntry → List Holder
 holders_by entries = map (λ (e : CodeEntry). record { clerk = e.clerk; text = credentials_of e.clerk e.code }) entries
 

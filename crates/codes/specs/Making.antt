@@ -13,7 +13,7 @@ use Rattle.codes.specs.declared.range.ClerkRange.{ClerkRange}
 abbrev pub letters : List ℕ
 letters = codes "abcdefghjkmnprstuwxy2347"
 
--- whether a byte is one of these letters
+-- whether a byte is one of the letters that codes are made of
 abbrev pub is_letter : ℕ → Bool
 is_letter byte = list_any (λ letter. letter == byte) letters
 
@@ -81,16 +81,16 @@ clerks_between (Some first) (Some last) = if nat_le first last then Some (record
 abbrev pub clerks_in : List ℕ → Option ClerksEntry
 clerks_in text = clerks_between (clerk_in (take (prefix_len is_no_hyphen text) text)) (clerk_in (drop (prefix_len is_no_hyphen text + 1) text))
 
--- ---- a file of new codes
+-- ---- a new codes file
 
--- a text is a file of codes for exactly these clerks, in order, and each code has twelve letters
+-- a text is a codes file for exactly the given clerks, in order, and each code has twelve letters
 pub record IsMadeFor (clerks : List ℕ) (text : List ℕ) : Type 0 where
   pub entries : List CodeEntry
   pub is : codes_in text ≡ Ok entries
   pub each : map (λ (e : CodeEntry). e.clerk) entries ≡ clerks
   pub made : list_all (λ (e : CodeEntry). is_made e.code) entries ≡ true
 
--- a text is such a file in which the office also has a code, which has sixteen letters and isn't any clerk's
+-- a text is such a file that also contains a code for the office, which has sixteen letters and isn't any clerk's
 pub record IsMadeWithOffice (clerks : List ℕ) (text : List ℕ) : Type 0 where
   pub of_clerks : IsMadeFor clerks text
   pub code : List ℕ
@@ -117,7 +117,7 @@ is_file_for clerks office (Ok file) =
 
 -- ---- the text of a file
 
--- a clerk's line: the clerk's number, a space, and the code made of these letters
+-- a clerk's line: the clerk's number, a space, and the code made of the given letters
 abbrev pub line_of : ℕ → List ℕ → List ℕ
 line_of clerk own =
     ((((((decimal clerk ++ codes " ") ++ take 4 own) ++ codes "-") ++ slice_range own 4 8) ++ codes "-") ++ drop 8 own) ++ codes "\n"
@@ -127,24 +127,24 @@ abbrev pub text_of : List ℕ → List ℕ → List ℕ
 text_of [] own = []
 text_of (clerk ∷ clerks) own = line_of clerk (take code_letters own) ++ text_of clerks (drop code_letters own)
 
--- the number of letters in the codes of these clerks
+-- the number of letters in the codes of the given clerks
 abbrev pub letters_for : ClerkRange → ℕ
 letters_for clerks = code_letters * length (clerks_of clerks)
 
--- the office's code made of these letters
+-- the office's code made of the given letters
 abbrev pub office_code : List ℕ → List ℕ
 office_code own = (((((take 4 own ++ codes "-") ++ slice_range own 4 8) ++ codes "-") ++ slice_range own 8 12) ++ codes "-") ++ drop 12 own
 
--- the office's line: its name, a space, and the code made of these letters
+-- the office's line: its name, a space, and the code made of the given letters
 abbrev pub office_line : List ℕ → List ℕ
 office_line own = ((office_name ++ codes " ") ++ office_code own) ++ codes "\n"
 
--- the lines of clerks, followed by the office's if a code is made for it, whose letters come after the clerks'
+-- the lines of clerks, followed by the office's if a code is made for it, whose letters follow the clerks'
 abbrev pub text_with : ClerkRange → Bool → List ℕ → List ℕ
 text_with clerks false own = text_of (clerks_of clerks) own
 text_with clerks true own = text_of (clerks_of clerks) (take (letters_for clerks) own) ++ office_line (drop (letters_for clerks) own)
 
--- the number of letters in these codes
+-- the number of letters in the codes of the given clerks, and in the office's if one is made
 abbrev pub letters_with : ClerkRange → Bool → ℕ
 letters_with clerks false = letters_for clerks
 letters_with clerks true = letters_for clerks + office_letters

@@ -10,7 +10,7 @@ most_wrong = 6000
 abbrev pub minute : ℕ
 minute = 60000
 
--- the wrong codes of a minute: when the minute began, in milliseconds on some clock, and how many were sent since then, up to the limit
+-- the wrong codes in a minute: when the minute began, in milliseconds on some clock, and how many have been sent since then, up to the limit
 pub record LimitEntry : Type 0 where
   pub since : ℕ
   pub count : ℕ
@@ -26,11 +26,11 @@ none_wrong = record { since = 0; count = 0 }
 abbrev pub is_current : LimitEntry → ℕ → Bool
 is_current e now = nat_lt (now - e.since) minute
 
--- whether the limit is reached: that many wrong codes were sent in the current minute
+-- whether the limit is reached: that many wrong codes have been sent in the current minute
 abbrev pub is_reached : LimitEntry → ℕ → Bool
 is_reached e now = nat_le most_wrong e.count && is_current e now
 
--- one more wrong code was sent, in the current minute or as the first one of a new minute
+-- another wrong code was sent, in the current minute or as the first one of a new minute
 abbrev pub counted : ℕ → LimitEntry → LimitEntry
 counted now e =
     if is_current e now then record { since = e.since; count = min (e.count + 1) most_wrong } else record { since = now; count = 1 }

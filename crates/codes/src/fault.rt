@@ -1,4 +1,4 @@
-//! What can be wrong with a file of codes.
+//! What can be wrong with a codes file.
 
 ghost use Rattle.std.specs.Prelude.{◌≡◌};
 ghost use Rattle.codes.specs.Faults.{fault_line, fault_number, fault_text, flaw_number, flaw_text};

@@ -51,7 +51,7 @@ impl Basic {
         Ok(Basic { text, digest })
     }
 
-    /// Returns true if a text is these credentials. Compares the digests first, and the texts only if the digests are equal, so
+    /// Returns true if a text equals these credentials. Compares the digests first, and the texts only if the digests are equal, so
     /// that the time taken doesn't reveal how much of the text is correct.
     fn are(&self, text: &[u8], digest: &[u8; 32]) -> bool
         requires { digest.now ≡ sha256 text.now }
@@ -72,7 +72,7 @@ impl Credentials {
     }
 }
 
-/// Returns true if a text is the credentials of this clerk.
+/// Returns true if a text is the credentials of the given clerk.
 fn is_of(all: &[Credentials], clerk: u32, text: &[u8]) -> bool
     ensures { result ≡ is_of (map holder all.now) clerk text.now }
 {
@@ -85,7 +85,7 @@ fn is_of(all: &[Credentials], clerk: u32, text: &[u8]) -> bool
     false
 }
 
-/// Returns the credentials of the clerks in these lines.
+/// Returns the credentials of the clerks in the given lines.
 pub(crate) fn credentials_by(
     alloc: Global,
     lines: &[CodeLine<'_>],
@@ -110,8 +110,8 @@ pub(crate) fn office_by(alloc: Global, code: Option<&[u8]>) -> Result<Option<Bas
 }
 
 impl Codes {
-    /// Returns true if a text is the credentials of this clerk. Hashes the whole text and compares digests first, so that the time
-    /// taken doesn't reveal how much of the text is correct.
+    /// Returns true if a text is the credentials of the given clerk. Hashes the whole text and compares digests first, so that the
+    /// time taken doesn't reveal how much of the text is correct.
     pub fn admits(&self, clerk: u32, text: &[u8]) -> bool
         ensures { result ≡ is_of (holders_of self.now) clerk text.now }
     {

@@ -8,7 +8,7 @@
 //! returns the text of a new file, made from random bytes ([`RandomSource`]), and [`make_with_office`] one that includes a code for
 //! the office.
 //!
-//! `specs/Codes.antt` defines the credentials of a clerk and of the office, `specs/Files.antt` the contents of a file of codes, and
+//! `specs/Codes.antt` defines the credentials of a clerk and of the office, `specs/Files.antt` the contents of a codes file, and
 //! `specs/RateLimits.antt` the limit on wrong codes. `specs/Making.antt` defines the text of a new file, and `specs/Drawing.antt`
 //! the bytes that it is made from. Nothing guarantees that the system's bytes are random.
 //!

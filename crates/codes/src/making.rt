@@ -30,7 +30,7 @@ fn is_letter(byte: u8) -> bool
     LETTERS.iter().any(|letter| *letter == byte)
 }
 
-/// Returns true if all bytes are such letters.
+/// Returns true if all bytes are letters that codes are made of.
 fn are_letters(text: &[u8]) -> bool
     ensures { result ≡ list_all is_letter text.now }
 {
@@ -63,7 +63,7 @@ fn is_made_for_office(code: &[u8]) -> bool
         && are_letters(&code[15..])
 }
 
-/// Returns true if the office has such a code, or if it has none and none is made for it.
+/// Returns true if the office has a code of sixteen letters, or if it has none and none is made for it.
 fn is_made_at(office: bool, code: Option<&[u8]>) -> bool
     ensures { result ≡ is_made_at office (option_map (λ c. c.now) code.entry) }
 {
@@ -73,7 +73,7 @@ fn is_made_at(office: bool, code: Option<&[u8]>) -> bool
     }
 }
 
-/// Returns true if every code in these lines has the form of a new clerk's code.
+/// Returns true if every code in the given lines has the form of a new clerk's code.
 fn all_made(all: &[CodeLine<'_>]) -> bool
     ensures { result ≡ list_all (λ (e : CodeEntry). is_made e.code) (map code_entry all.now) }
 {
@@ -85,7 +85,7 @@ fn all_made(all: &[CodeLine<'_>]) -> bool
     true
 }
 
-/// Returns true if these lines are for exactly these clerks, in order.
+/// Returns true if the given lines are for exactly the given clerks, in order.
 fn are_of(all: &[CodeLine<'_>], clerks: ClerkRange) -> bool
     ensures { result ≡ are_from clerks.first (clerks.last + 1) (map code_entry all.now) }
 {
@@ -99,8 +99,8 @@ fn are_of(all: &[CodeLine<'_>], clerks: ClerkRange) -> bool
     next == u64::from(clerks.last) + 1
 }
 
-/// Returns true if a text is a file of new codes for exactly these clerks, with or without one for the office. The only error is a
-/// failed allocation.
+/// Returns true if a text is a new codes file for exactly the given clerks, with or without one for the office. The only error
+/// is a failed allocation.
 fn is_made_for(
     alloc: Global,
     text: &[u8],
@@ -122,7 +122,7 @@ fn is_made_for(
     }
 }
 
-/// Returns the text of a file of new codes for these clerks, with or without one for the office.
+/// Returns the text of a new codes file for the given clerks, with or without one for the office.
 fn make_file<D: RandomSource>(
     alloc: Global,
     draws: &mut D,
@@ -146,11 +146,11 @@ fn make_file<D: RandomSource>(
     Err(CodesError::Fault(CodesFault::BadRandom))
 }
 
-/// Returns the text of a file of new codes for these clerks, one line each. Its letters are those that the last bytes drawn select.
-/// The text is read back; if a code appears in it twice, all codes are drawn again.
+/// Returns the text of a new codes file for the given clerks, one line each. Its letters are those that the last bytes drawn
+/// select. The text is read back; if a code appears in it twice, all codes are drawn again.
 ///
-/// Fails with `NoRandom` only if the source fails, whose count of failures then increases by one. Fails with `BadRandom` if 100
-/// bytes per letter yield too few letters, or if 100 texts in a row are not files of codes. The only other error is a failed
+/// Fails with `NoRandom` only if the source fails; the source's count of failures then increases by one. Fails with `BadRandom` if
+/// 100 bytes per letter yield too few letters, or if 100 texts in a row are not codes files. The only other error is a failed
 /// allocation.
 pub fn make<D: RandomSource>(
     alloc: Global,
@@ -167,8 +167,8 @@ pub fn make<D: RandomSource>(
     make_file(alloc, draws, clerks, false)
 }
 
-/// Returns the text of a file of new codes for these clerks, one line each, and for the office, whose line is the last one and
-/// whose code has sixteen letters. It is made in the same way as by [`make`], with the same errors.
+/// Returns the text of a new codes file for the given clerks, one line each, and for the office, whose line is the last one and
+/// whose code has sixteen letters. It is made the same way as in [`make`], with the same errors.
 pub fn make_with_office<D: RandomSource>(
     alloc: Global,
     draws: &mut D,

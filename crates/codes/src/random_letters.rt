@@ -66,7 +66,7 @@ fn draw_letter<D: RandomSource>(draws: &mut D, letters: &mut Vec<u8>) -> Result<
     }
 }
 
-/// Returns the number of letters in the codes of these clerks, with or without the office's.
+/// Returns the number of letters in the codes of the given clerks, with or without the office's.
 fn letters_count(clerks: ClerkRange, office: bool) -> usize
     ensures is { result ≡ letters_with clerks office }
     ensures bound { result ≤ 2 ^ 36 }
@@ -79,7 +79,7 @@ fn letters_count(clerks: ClerkRange, office: bool) -> usize
     }
 }
 
-/// Draws the letters of codes for these clerks, with or without one for the office.
+/// Draws the letters of codes for the given clerks, with or without one for the office.
 fn draw_letters<D: RandomSource>(
     alloc: Global,
     draws: &mut D,
@@ -115,7 +115,7 @@ fn push_letters(text: &mut String, letters: &[u8]) -> Result<(), AllocError>
     Ok(())
 }
 
-/// Appends a clerk's line: the clerk's number, a space, and the code made of these letters.
+/// Appends a clerk's line: the clerk's number, a space, and the code made of the given letters.
 #[tactic(auto, using(crate::proofs::NumberLemmas::joined))]
 fn push_line(alloc: Global, text: &mut String, clerk: u32, letters: &[u8]) -> Result<(), AllocError>
     requires enough { length letters.now ≡ 12 }
@@ -133,7 +133,7 @@ fn push_line(alloc: Global, text: &mut String, clerk: u32, letters: &[u8]) -> Re
     Ok(())
 }
 
-/// Returns the lines of these clerks, with twelve of these letters each.
+/// Returns the lines of the given clerks, with twelve of the given letters each.
 fn lines_by(alloc: Global, clerks: ClerkRange, letters: &[u8]) -> Result<String, AllocError>
     requires enough { length letters.now ≡ letters_for clerks }
     requires ascii { EachIndex letters.now (λ k. slice_index letters.now k < 128) }
@@ -150,7 +150,7 @@ fn lines_by(alloc: Global, clerks: ClerkRange, letters: &[u8]) -> Result<String,
     Ok(text)
 }
 
-/// Appends the office's code made of these letters.
+/// Appends the office's code made of the given letters.
 #[tactic(auto, using(crate::proofs::NumberLemmas::groups_joined))]
 fn push_office_code(text: &mut String, letters: &[u8]) -> Result<(), AllocError>
     requires enough { length letters.now ≡ 16 }
@@ -167,7 +167,7 @@ fn push_office_code(text: &mut String, letters: &[u8]) -> Result<(), AllocError>
     Ok(())
 }
 
-/// Appends the office's line: its name, a space, and the code made of these letters.
+/// Appends the office's line: its name, a space, and the code made of the given letters.
 #[tactic(auto, using(crate::proofs::NumberLemmas::line_joined))]
 fn push_office_line(text: &mut String, letters: &[u8]) -> Result<(), AllocError>
     requires enough { length letters.now ≡ 16 }
@@ -181,8 +181,8 @@ fn push_office_line(text: &mut String, letters: &[u8]) -> Result<(), AllocError>
     Ok(())
 }
 
-/// Returns the lines of these clerks, with twelve of these letters each. If a code is made for the office, its line follows, with
-/// the remaining sixteen letters.
+/// Returns the lines of the given clerks, with twelve of the given letters each. If a code is made for the office, its line
+/// follows, with the remaining sixteen letters.
 fn text_by(
     alloc: Global,
     clerks: ClerkRange,
@@ -202,8 +202,8 @@ fn text_by(
     Ok(text)
 }
 
-/// Draws codes for these clerks, with or without one for the office, and returns their lines. Fails with `NoRandom` if the source
-/// fails, and with `BadRandom` if 100 bytes per letter yield too few letters.
+/// Draws codes for the given clerks, with or without one for the office, and returns their lines. Fails with `NoRandom` if the
+/// source fails, and with `BadRandom` if 100 bytes per letter yield too few letters.
 pub(crate) fn draw_lines<D: RandomSource>(
     alloc: Global,
     draws: &mut D,

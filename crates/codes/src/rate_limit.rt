@@ -9,10 +9,10 @@ const MOST_WRONG: u32 = 6_000;
 /// A minute, in milliseconds.
 const MINUTE: u64 = 60_000;
 
-/// The number of wrong codes that all clients together sent in the current minute. `since` is the time at which the minute began,
-/// in milliseconds on some clock.
+/// The number of wrong codes that all clients together have sent in the current minute. `since` is the time at which the minute
+/// began, in milliseconds on some clock.
 ///
-/// Only wrong codes are limited. A request with a correct code is accepted however many wrong codes were sent.
+/// Only wrong codes are limited. A request with a correct code is accepted however many wrong codes have been sent.
 #[derive(Clone, Copy)]
 pub struct RateLimit {
     pub since: u64,
@@ -20,7 +20,7 @@ pub struct RateLimit {
 }
 
 impl RateLimit {
-    /// Returns the limit before any wrong code was sent.
+    /// Returns the limit before any wrong code has been sent.
     pub fn new() -> RateLimit
         ensures { limit_entry result ≡ none_wrong }
     {
@@ -35,7 +35,7 @@ impl RateLimit {
         now.saturating_sub(self.since) < MINUTE
     }
 
-    /// Returns true if the number of wrong codes sent in the current minute has reached the limit.
+    /// Returns true if the number of wrong codes that were sent in the current minute has reached the limit.
     pub fn is_reached(&self, now: u64) -> bool
         ensures { result ≡ is_reached (limit_entry self.now) now }
     {

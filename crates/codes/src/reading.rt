@@ -1,4 +1,4 @@
-//! Reading the text of a file of codes line by line.
+//! Reading the text of a codes file line by line.
 
 ghost use Rattle.std.specs.Prelude.{◌≡◌, ◌≤◌, ◌⊎◌, ◌*◌, ◌+◌, ◌==◌, [], IfErr, IfOk, IfSome, List, Ok, Err, bytes_eq, length, map, option_and_then, option_map, ℕ};
 ghost use Rattle.std.specs.List.{count_by, list_all, list_any, prefix_len};
@@ -27,14 +27,14 @@ const FEWEST_STRONG_BYTES: usize = 12;
 /// The minimum number of bytes in the office's code, not counting hyphens.
 const FEWEST_OFFICE_BYTES: usize = 16;
 
-/// A clerk's line in a file of codes: the clerk and that clerk's code.
+/// A clerk's line in a codes file: the clerk and that clerk's code.
 #[derive(Clone, Copy)]
 pub struct CodeLine<'a> {
     pub clerk: u32,
     pub code: &'a [u8],
 }
 
-/// The contents of a file of codes: the clerks' lines, and the office's code, if there is a line for the office.
+/// The contents of a codes file: the clerks' lines, and the office's code, if there is a line for the office.
 #[derive(Drop)]
 pub struct FileLines<'a> {
     pub clerks: Vec<CodeLine<'a>>,
@@ -101,7 +101,7 @@ fn is_code(text: &[u8]) -> bool
     text.len() >= FEWEST_BYTES && text.len() <= MOST_BYTES && all_visible(text)
 }
 
-/// Returns the number of bytes in a code that aren't hyphens.
+/// Returns the number of bytes other than hyphens in a code.
 fn count_other_bytes(code: &[u8]) -> usize
     ensures { result ≡ count_by is_no_hyphen code.now }
 {
@@ -193,7 +193,7 @@ fn without_return(line: &[u8]) -> &[u8]
     }
 }
 
-/// Returns true if one of these lines is for this clerk.
+/// Returns true if one of the given lines is for the given clerk.
 fn has_clerk(before: &[CodeLine<'_>], clerk: u32) -> bool
     ensures { result ≡ list_any (λ (other : CodeEntry). other.clerk == clerk) (map code_entry before.now) }
 {
@@ -205,7 +205,7 @@ fn has_clerk(before: &[CodeLine<'_>], clerk: u32) -> bool
     false
 }
 
-/// Returns true if one of these clerks' lines has this code.
+/// Returns true if one of the given clerks' lines has the given code.
 fn clerk_has_code(before: &[CodeLine<'_>], code: &[u8]) -> bool
     ensures { result ≡ list_any (λ (other : CodeEntry). bytes_eq other.code code.now) (map code_entry before.now) }
 {
@@ -217,7 +217,7 @@ fn clerk_has_code(before: &[CodeLine<'_>], code: &[u8]) -> bool
     false
 }
 
-/// Returns true if the office has this code.
+/// Returns true if the office has the given code.
 fn is_offices(office: Option<&[u8]>, code: &[u8]) -> bool
     ensures { result ≡ is_offices (option_map (λ c. c.now) office.entry) code.now }
 {
@@ -227,7 +227,7 @@ fn is_offices(office: Option<&[u8]>, code: &[u8]) -> bool
     }
 }
 
-/// Returns true if a clerk or the office has this code.
+/// Returns true if a clerk or the office has the given code.
 fn has_code(before: &FileLines<'_>, code: &[u8]) -> bool
     ensures { result ≡ has_code (file_entry before.now) code.now }
 {
@@ -271,7 +271,7 @@ fn office_behind<'a>(before: &FileLines<'_>, line: &'a [u8]) -> Result<&'a [u8],
 }
 
 impl<'a> FileLines<'a> {
-    /// Parses one more line, with the given number. Fails if an allocation fails or something is wrong with the line.
+    /// Parses another line, which has the given number. Fails if an allocation fails or something is wrong with the line.
     fn add(&mut self, number: usize, line: &'a [u8]) -> Result<(), CodesError>
         ensures ok { IfOk result (λ _. with_line (file_entry self.old) line.now ≡ Ok (file_entry self.new)) }
         ensures err { IfErr result (λ why. (why ≡ read_error.Memory)
@@ -316,7 +316,7 @@ pub fn lines_of(alloc: Global, text: &[u8]) -> Result<Vec<Vec<u8>>, AllocError>
     Ok(lines)
 }
 
-/// Parses all lines of a file. Fails if an allocation fails, or with a fault for the first line that is wrong.
+/// Parses all lines of a file. Fails if an allocation fails, or with a fault for the first invalid line.
 pub fn entries_of(alloc: Global, lines: &[Vec<u8>]) -> Result<FileLines<'_>, CodesError>
     ensures ok { IfOk result (λ found. file_from 1 no_codes (map (λ line. line.items) lines.now) ≡ Ok (file_entry found)) }
     ensures err { IfErr result (λ why. (why ≡ read_error.Memory)
@@ -336,7 +336,7 @@ pub fn entries_of(alloc: Global, lines: &[Vec<u8>]) -> Result<FileLines<'_>, Cod
 }
 
 impl Codes {
-    /// Reads the codes in the text of a file. Fails if an allocation fails, or with a fault for the first line that is wrong.
+    /// Reads the codes in the text of a file. Fails if an allocation fails, or with a fault for the first invalid line.
     pub fn read(alloc: Global, text: &[u8]) -> Result<Codes, CodesError>
         ensures ok { IfOk result (λ own. (entries : List CodeEntry) × (codes_in text.now ≡ Ok entries) × (holders_of own ≡ holders_by entries) × (own.weak.items ≡ weak_clerks entries)) }
         ensures office { IfOk result (λ own. office_of own ≡ office_held (office_in text.now)) }

@@ -15,7 +15,7 @@ use Rattle.connections.specs.Closing.{AreClosedByRule, IsWithin}
 use Rattle.connections.proofs.ClosingLemmas.{Outs}
 
 module _ {L : Type 0} where
-  -- at most as many clients, and as many bytes held by them, as the limits allow
+  -- there are at most as many connections, and they hold at most as many bytes, as the limits allow
   abbrev pub IsWithinOf : List (Client L) → Type 0
   IsWithinOf clients = (length clients ≤ most_clients) × (bytes_held clients ≤ most_bytes)
 
@@ -26,7 +26,7 @@ module _ {L : Type 0} where
       let less = sum_by-remove bytes_of clients place d within in
       (omega (arith, fewer, was.0), omega (arith, less, was.1))
 
-  -- one connection was taken out of its place, and is back
+  -- a connection was taken out of its place and put back
   pub few_back : (clients taken back : List (Client L)) (place : ℕ) (new : Client L) → place < length clients → length clients ≤ most_clients
       → taken ≡ remove clients place → back ≡ insert taken place new → length back ≤ most_clients
   few_back clients taken back place new within few out is =
@@ -34,7 +34,7 @@ module _ {L : Type 0} where
       let more = length-insert (remove clients place) place new (omega (arith, fewer, within)) in
       subst (λ (cs : List (Client L)). length cs ≤ most_clients) (sym (is ∙ ap (λ (cs : List (Client L)). insert cs place new) out)) (omega (arith, fewer, more, few))
 
-  -- while it is out, there is room for it
+  -- while a connection is out of its place, there is room for it
   pub place_left : (clients taken : List (Client L)) (place : ℕ) → place < length clients → length clients ≤ most_clients → taken ≡ remove clients place
       → (place ≤ length taken) × (length taken < most_clients)
   place_left clients taken place within few out =
@@ -53,7 +53,7 @@ module _ {L : Type 0} where
             let out = outs (c ∷ cs) removed rest go in
             subst (λ (xs : List (Client L)). IsWithinOf xs) (sym out.out.left) (one_less (c ∷ cs) out.place c out.out.within is)
 
-    -- some connections were closed
+    -- connections were closed
     pub within_still : (before later : NetworkEntry L) (old new : ConnectionTable L) → AreClosedByRule Goes before later old new → IsWithin old → IsWithin new
     within_still before later old new it was = let_go it.gone old.clients.items new.clients.items it.each was
 
@@ -66,7 +66,7 @@ module _ {L : Type 0} where
         let rest = few_still gone mid new others in
         omega (arith, fewer, left, rest)
 
-    -- some connections were closed, until the bytes in memory were within the limit
+    -- connections were closed until the bytes in memory were within the limit
     pub within_again : (before later : NetworkEntry L) (old new : ConnectionTable L) → length old.clients.items ≤ most_clients → AreClosedByRule Goes before later old new
         → bytes_held new.clients.items ≤ most_bytes → IsWithin new
     within_again before later old new few it bytes = (omega (arith, few, few_still it.gone old.clients.items new.clients.items it.each), bytes)

@@ -70,7 +70,7 @@ module _ {L : Type 0} (Goes : List (Client L) → Removed L → List (Client L) 
     each = folds_then Goes a.gone b.gone old.clients.items went.clients.items new.clients.items a.each b.each;
   }
 
--- a connection is closed because the table is full, or none is
+-- a connection may be closed because the table is full
 pub let_go_full : {L : Type 0} (now : ℕ) (one : Bool) (before later : NetworkEntry L) (old new : ConnectionTable L) → AreFull old.clients.items
     → ClosesOne (IsClosedByRule (eviction_rule now)) one before later old new → AreClosedByRule (IsEvicted now) before later old new
 let_go_full {L} now true before later old new full goes = let_go_one (IsEvicted now) before later old new
@@ -79,7 +79,7 @@ let_go_full {L} now false before later old new full goes = let_go_maybe (IsEvict
 
 -- ---- which connections are gone
 
--- a connection closed in this way was removed from its place, for a reason that implies nothing about it
+-- a connection closed this way was removed from its place, for a reason that implies nothing about it
 pub record Out {L : Type 0} (old : List (Client L)) (removed : Removed L) (new : List (Client L)) : Type 0 where
   pub why : CloseReason
   pub place : ℕ
@@ -131,7 +131,7 @@ module _ {L : Type 0} (rule : Rule) where
     back = back;
   }
 
-  -- none of the connections has waited long enough
+  -- none of the connections has been waiting long enough
   abbrev pub NoneDue : List (Client L) → Type 0
   NoneDue clients = All (λ (c : Client L). is_among rule.orders_too c.listener ≡ true → rule.now - c.since < rule.least) clients
 
@@ -161,7 +161,7 @@ seen_too Orders = refl
 pub all_seen : {L : Type 0} (P : Client L → Type 0) (clients : List (Client L)) → All (λ (c : Client L). is_among true c.listener ≡ true → P c) clients → All P clients
 all_seen {L} P clients all = All-weaker (λ (c : Client L). is_among true c.listener ≡ true → P c) P (λ c holds. holds (seen_too c.listener)) clients all
 
--- if all connections would be due, and none is, no connection is open
+-- if the rule would close any connection, but closes none, then no connection is open
 pub none_there : {L : Type 0} (clients : List (Client L)) → All (λ (c : Client L). is_among true c.listener ≡ true → 0 - c.since < 0) clients → clients ≡ []
 none_there [] none = refl
 none_there (c ∷ cs) none = let never = none 0 c (omega arith) (seen_too c.listener) in absurd (omega (arith, never))
@@ -184,7 +184,7 @@ pub thinner : {L : Type 0} (first old new : List (Client L)) (turns : ℕ) → l
 thinner {L} first old new turns less (inl so_far) = inl (omega (arith, less, so_far))
 thinner {L} first old new turns less (inr empty) = let zero : length old ≡ 0 = ap (λ (cs : List (Client L)). length cs) empty in absurd (omega (arith, less, zero))
 
--- a connection was closed because of the bytes in memory, or there was none
+-- a connection was closed because of the bytes in memory, or there was none to close
 pub thinner_maybe : {L : Type 0} (first : List (Client L)) (turns : ℕ) (one : Bool) (before later : NetworkEntry L) (old new : ConnectionTable L)
     → ClosesOne IsClosedForBytes one before later old new → (one ≡ false → old.clients.items ≡ [])
     → IsThinner first turns old.clients.items → IsThinner first (turns + 1) new.clients.items
@@ -199,7 +199,7 @@ none_left first last turns (inr empty) few = empty
 pub none_held : {L : Type 0} (last : List (Client L)) (most : ℕ) → last ≡ [] → bytes_held last ≤ most
 none_held {L} last most empty = subst (λ (cs : List (Client L)). bytes_held cs ≤ most) (sym empty) (omega arith)
 
--- the connection at a place is handed back, for a reason
+-- the connection at a place is handed back, with a reason
 pub closed_at : {L : Type 0} (why : CloseReason) (place : ℕ) (old new : List (Client L)) (client : Client L) (removed : Removed L) (before later : NetworkEntry L)
     → place < length old → client ≡ get_or old place client → new ≡ remove old place
     → removed ≡ removed_of client why → later ≡ with_removed before removed → IsClosedAt why place old before new later
@@ -209,7 +209,7 @@ closed_at {L} why place old new client removed before later within here left is 
   back,
 )
 
--- no connection is timed out any more
+-- no connection that is still open has timed out
 pub none_late : {L : Type 0} (now : ℕ) (clients : List (Client L)) → clients ≡ [] → All (λ (c : Client L). now - c.since < timeout) clients
 none_late {L} now clients empty = subst (All (λ (c : Client L). now - c.since < timeout)) (sym empty) (All-nil (λ (c : Client L). now - c.since < timeout))
 

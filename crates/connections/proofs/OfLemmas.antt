@@ -1,4 +1,4 @@
--- Each connection keeps the stream with which it was accepted, whichever connections are accepted, serviced or closed.
+-- Each connection keeps the stream that it was accepted with, whichever connections are accepted, serviced or closed.
 use Rattle.std.proofs.Common.{◌≡◌, ◌++◌, ◌∷◌, ℕ, zero, suc, List, [], None, Option, Some, drop, get_or, length, set, slice_get, subst, sym, take, ◌<◌}
 use Rattle.std.specs.Prelude.{IsSomeAnd}
 use Rattle.std.specs.List.{remove}
@@ -21,7 +21,7 @@ module _ {L : Type 0} (stream : Stream L) where
   abbrev Own : List L → Client L → Type 0
   Own came client = IsSomeAnd (slice_get came client.number) (λ start. IsOf stream start client)
 
-  -- one more connection was accepted, under the next number
+  -- another connection was accepted, under the next number
   pub all_of_entered : (came : List L) (clients : List (Client L)) (start : L) (client : Client L) → AllOf stream came clients → client.number ≡ length came → IsOf stream start client
       → AllOf stream (came ++ start ∷ []) (clients ++ client ∷ [])
   all_of_entered came clients start client all is own =

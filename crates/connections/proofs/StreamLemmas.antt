@@ -9,7 +9,7 @@ use Rattle.connections.specs.Clients.{IsReceived, IsSent}
 
 -- ---- what a stream accepted
 
--- a write that accepted some bytes isn't idle
+-- a write that accepted any bytes isn't idle
 pub not_idle : (n : ℕ) (idle : Option ℕ) → (n ≡ 0 → ⊥) → idle_after_write (Ok n) idle ≡ idle
 not_idle zero idle ne = absurd (ne refl)
 not_idle (suc n) idle ne = refl
@@ -54,7 +54,7 @@ module _ {L : Type 0} (stream : Stream L) where
     untold = next.untold ∙ first.untold;
   }
 
-  -- a client from which more was received
+  -- more was received from a client
   pub heard_more : (start old new : L) (before after : List ℕ) → IsReceived stream start old before → Receives stream old new before after → IsReceived stream start new after
   heard_more start old new before after received more = record {
     gave = subst (Consumes (stream.held start) (stream.held new)) (sym more.is)
@@ -81,7 +81,7 @@ module _ {L : Type 0} (stream : Stream L) where
       → Delivers stream old new answer sent (sent + n)
   delivers_one old new answer sent n within took unheard = record { within = within; bytes = take n (drop sent answer); is = take-add sent n answer; took = took; unheard = unheard }
 
-  -- and the bytes after them
+  -- the next bytes were sent, and then the bytes after them
   pub delivers_then : (old mid new : L) (answer : List ℕ) (before between after : ℕ) → Delivers stream old mid answer before between → Delivers stream mid new answer between after
       → Delivers stream old new answer before after
   delivers_then old mid new answer before between after first next = record {
@@ -92,7 +92,7 @@ module _ {L : Type 0} (stream : Stream L) where
     unheard = Keeps-trans (stream.held old) (stream.held mid) (stream.held new) first.unheard next.unheard;
   }
 
-  -- this many of the remaining bytes were sent next
+  -- the given number of the remaining bytes was sent next
   pub delivers_next : (first mid new : L) (answer : List ℕ) (before sent n : ℕ) (bytes : List ℕ) → Delivers stream first mid answer before sent → bytes ≡ drop sent answer → n ≤ length bytes
       → Grows (stream.taken mid) (stream.taken new) (take n bytes) → Keeps (stream.held mid) (stream.held new) → Delivers stream first new answer before (sent + n)
   delivers_next first mid new answer before sent n bytes so_far is within took unheard =
@@ -101,13 +101,13 @@ module _ {L : Type 0} (stream : Stream L) where
       (delivers_one mid new answer sent n (λ within. omega (arith, few, within, length-drop sent answer))
       (subst (λ (xs : List ℕ). Grows (stream.taken mid) (stream.taken new) (take n xs)) is took) unheard)
 
-  -- a client to which more of its response was sent
+  -- more of its response was sent to a client
   pub told_more : (old new : L) (answer : List ℕ) (before after : ℕ) → IsSent stream old answer before → Delivers stream old new answer before after → IsSent stream new answer after
   told_more old new answer before after told more = record {
     within = more.within told.within;
     took = subst (HasTaken (stream.taken new)) (sym more.is) (taken_more (stream.taken old) (stream.taken new) (take before answer) more.bytes more.took told.took);
   }
 
-  -- a client from which bytes were received, and which now has its response, none of which has been sent yet
+  -- bytes were received from a client, and now it has its response, none of which has been sent yet
   pub told_none : (start now : L) (got answer : List ℕ) → IsReceived stream start now got → IsSent stream now answer 0
   told_none start now got answer received = record { within = omega arith; took = received.untold }

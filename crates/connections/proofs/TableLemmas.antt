@@ -1,4 +1,4 @@
--- Which of the connections that count has been waiting longest, among the first ones and after one more.
+-- Which of the connections that count has been waiting longest, among the first ones and after adding another.
 use Rattle.std.proofs.Common.{◌≡◌, ◌<◌, ◌≤◌, ◌∙◌, ◌++◌, ◌∷◌, ℕ, Bool, true, false, List, [], Option, None, Some, IfSome, add-one, ap, arith, get_or, length, refl, subst, sym}
 use Rattle.std.proofs.Common.{◌+◌, cond, nat_le, take}
 use Rattle.std.proofs.Math.Seq.{take-suc}
@@ -9,11 +9,11 @@ use Rattle.std.proofs.lemmas.List.Elements.{All-push, All-weaker}
 use Rattle.connections.specs.declared.client.Client.{Client}
 use Rattle.connections.specs.Tables.{AreUnseen, HasWaitedLongest, earlier, is_among}
 
--- none of the connections that count has an earlier time limit than this
+-- no connection that counts has a time limit that began before the given time
 abbrev IsFirst : {L : Type 0} → Bool → List (Client L) → ℕ → Type 0
 IsFirst orders_too clients since = All (λ other. is_among orders_too other.listener ≡ true → since ≤ other.since) clients
 
--- the connection found counts, is at this place, and its time limit began at this time, before which no other began; or no connection counts
+-- the connection found counts and is at the given place, its time limit began at the given time, and no other began earlier; or no connection counts
 abbrev pub IsFound : {L : Type 0} → Bool → List (Client L) → Option (ℕ × ℕ) → Type 0
 IsFound orders_too clients None = AreUnseen orders_too clients
 IsFound {L} orders_too clients (Some it) =
@@ -21,7 +21,7 @@ IsFound {L} orders_too clients (Some it) =
     × All (λ other. is_among orders_too other.listener ≡ true → it.1 ≤ other.since) clients
 
 module _ {L : Type 0} (orders_too : Bool) where
-  -- one more connection, which doesn't count
+  -- another connection, which doesn't count
   pub found_past : (clients : List (Client L)) (found : Option (ℕ × ℕ)) (c : Client L) → is_among orders_too c.listener ≡ false → IsFound orders_too clients found
       → IsFound orders_too (clients ++ c ∷ []) found
   found_past clients None c unseen none = All-push (λ (o : Client L). is_among orders_too o.listener ≡ false) clients c none unseen
@@ -32,7 +32,7 @@ module _ {L : Type 0} (orders_too : Bool) where
       still : (d : Client L) → ((get_or (clients ++ c ∷ []) it.0 d).since ≡ it.1) × (is_among orders_too (get_or (clients ++ c ∷ []) it.0 d).listener ≡ true)
       still d = subst (λ (x : Client L). (x.since ≡ it.1) × (is_among orders_too x.listener ≡ true)) (sym (get_or_append_left clients (c ∷ []) d it.0 found.0)) (found.1 d)
 
-  -- one more connection, which hasn't been waiting longer
+  -- another connection, which hasn't been waiting longer
   pub found_kept : (clients : List (Client L)) (it : ℕ × ℕ) (c : Client L) → IsFound orders_too clients (Some it) → it.1 ≤ c.since → IsFound orders_too (clients ++ c ∷ []) (Some it)
   found_kept clients it c found le =
       let long = length_push clients c in
@@ -41,7 +41,7 @@ module _ {L : Type 0} (orders_too : Bool) where
       still : (d : Client L) → ((get_or (clients ++ c ∷ []) it.0 d).since ≡ it.1) × (is_among orders_too (get_or (clients ++ c ∷ []) it.0 d).listener ≡ true)
       still d = subst (λ (x : Client L). (x.since ≡ it.1) × (is_among orders_too x.listener ≡ true)) (sym (get_or_append_left clients (c ∷ []) d it.0 found.0)) (found.1 d)
 
-  -- one more connection, which has been waiting at least as long as any other
+  -- another connection, which has been waiting at least as long as any other
   found_at_end : (clients : List (Client L)) (c : Client L) → is_among orders_too c.listener ≡ true → IsFirst orders_too clients c.since
       → IsFound orders_too (clients ++ c ∷ []) (Some (length clients, c.since))
   found_at_end clients c seen all =
@@ -73,7 +73,7 @@ module _ {L : Type 0} (orders_too : Bool) where
   one_more_of clients place c lt is =
       ap (λ (n : ℕ). take n clients) (add-one place) ∙ take-suc clients place c lt ∙ ap (λ (x : Client L). take place clients ++ x ∷ []) (sym is)
 
-  -- one more of the connections in the table
+  -- another connection in the table
   pub found_at : (clients : List (Client L)) (place : ℕ) (c : Client L) (found : Option (ℕ × ℕ)) → place < length clients → c ≡ get_or clients place c → is_among orders_too c.listener ≡ true
       → IsFound orders_too (take place clients) found → IsFound orders_too (take (place + 1) clients) (earlier found true place c.since)
   found_at clients place c found lt is seen it =
@@ -91,7 +91,7 @@ module _ {L : Type 0} (orders_too : Bool) where
   found_next clients place c None false lt is seen it = found_by clients place c None lt is (sym seen) it
   found_next clients place c (Some one) false lt is seen it = found_by clients place c (Some one) lt is (sym seen) it
 
-  -- the connection that was found among all of them
+  -- the connection found among all of them
   pub longest_is : (clients : List (Client L)) (it : ℕ × ℕ) → IsFound orders_too clients (Some it)
       → (it.0 < length clients) × ((c : Client L) → HasWaitedLongest orders_too clients (get_or clients it.0 c))
   longest_is clients it found = (found.0, λ c. record { among = (found.1 c).1; first = λ k d lt is. subst (λ (n : ℕ). n ≤ (get_or clients k d).since) (sym (found.1 c).0) (found.2 k d lt is) })

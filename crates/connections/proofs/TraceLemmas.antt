@@ -20,7 +20,7 @@ use Rattle.connections.specs.declared.removed.CloseReason.{CloseReason}
 use Rattle.connections.specs.declared.connection_table.ConnectionTable.{ConnectionTable}
 use Rattle.connections.proofs.ClosingLemmas.{folds_then, more_then, none_more}
 
--- the events on a network: a connection was reported as ready, the clock may have shown a time at the gate, and then these followed
+-- the events on a network: a connection was reported as ready, the clock may have been read at the gate, and then the given events followed
 at_gate : {L : Type 0} (gate : Option ℕ) (before : NetworkEntry L) (number : ℕ) (rest : List (Event L))
     → option_map (λ (es : List (Event L)). es ++ rest) (with_gate gate (after_ready (Some number) before)).events ≡ option_map
     (λ (es : List (Event L)). es ++ (named number ∷ (gate_events gate ++ rest))) before.events
@@ -29,7 +29,7 @@ at_gate (Some now) before number rest =
     more_then (followed (named number) before.events) (showed now ∷ []) rest ∙ more_then before.events (named number ∷ []) (showed now ∷ rest)
 
 module _ {L : Type 0} (gated : Bool) (stream : Stream L) where
-  -- one part, followed by the next
+  -- one part of a trace, followed by the next
   pub trace_then : (first next : List ResponseAt) (from mid to : Option ℕ) (before at later : NetworkEntry L) (old went new : List (Client L))
       → Trace gated stream first from mid before at old went → Trace gated stream next mid to at later went new → Trace gated stream (first ++ next) from to before later old new
   trace_then first next from mid to before at later old went new a b = record {
@@ -55,7 +55,7 @@ module _ {L : Type 0} (gated : Bool) (stream : Stream L) where
     each = (scene (shown_after step shown) new, (refl, changes), refl);
   }
 
-  -- the clock showed a time, and the connections that had timed out were closed
+  -- the clock returned a time, and the connections that had timed out were closed
   pub course_look : (shown : Option ℕ) (now : ℕ) (before mid later : NetworkEntry L) (old new : ConnectionTable L) → mid ≡ with_moment before now
       → AreClosedByRule (IsClosedByRule (timeout_rule now)) mid later old new
       → All (λ (c : Client L). now - c.since < timeout) new.clients.items → Trace gated stream [] shown (Some now) before later old.clients.items new.clients.items
@@ -69,7 +69,7 @@ module _ {L : Type 0} (gated : Bool) (stream : Stream L) where
   pub course_fails : (shown : Option ℕ) (before later : NetworkEntry L) (clients : List (Client L)) → later ≡ with_failure before → Trace gated stream [] shown shown before later clients clients
   course_fails shown before later clients is = course_one fails shown before later clients clients (ap (λ (d : NetworkEntry L). d.events) is) refl
 
-  -- a connection was reported that isn't open
+  -- a connection that isn't open was reported
   pub course_misses : (shown : Option ℕ) (number : ℕ) (before later : NetworkEntry L) (clients : List (Client L)) → later ≡ after_ready (Some number) before
       → Trace gated stream [] shown shown before later clients clients
   course_misses shown number before later clients is = course_one (misses number) shown before later clients clients (ap (λ (d : NetworkEntry L). d.events) is) refl
@@ -87,7 +87,7 @@ module _ {L : Type 0} (gated : Bool) (stream : Stream L) where
         own = own;
       })
 
-  -- the system had no room for another connection, and one was closed for it, or none was
+  -- the system had no room for another connection, and one may have been closed to make room
   pub course_way : (now : ℕ) (one : Bool) (before at later : NetworkEntry L) (old new : ConnectionTable L) → at ≡ after_accept Full before
       → ClosesOne (IsClosedByRule (eviction_rule now)) one at later old new
       → Trace gated stream [] (Some now) (Some now) before later old.clients.items new.clients.items
@@ -98,7 +98,7 @@ module _ {L : Type 0} (gated : Bool) (stream : Stream L) where
       course_one keeps_out (Some now) before later old.clients.items new.clients.items (ap (λ (d : NetworkEntry L). d.events) still ∙ ap (λ (d : NetworkEntry L). d.events) is)
       (ap (λ (r : ConnectionTable L). r.clients.items) same)
 
-  -- some connections that were due were closed
+  -- connections were closed because the table was full or too many bytes were held in memory
   module _ (Goes : List (Client L) → Removed L → List (Client L) → Type 0) (shown : Option ℕ) (due : (old : List (Client L)) (removed : Removed L) (new : List (Client L))
       → Goes old removed new → IsEviction shown old removed new) where
     closed_events : (gone : List (Removed L)) → map handed_back gone ≡ flat_map events_of (map closes gone)
@@ -148,7 +148,7 @@ module _ {L : Type 0} (gated : Bool) (stream : Stream L) where
     abbrev CourseTo : NetworkEntry L → NetworkEntry L → List (Client L) → Type 0
     CourseTo before later clients_then = (to : Option ℕ) × Trace gated stream turns from to before later clients clients_then
 
-    -- and is back in its place
+    -- it is back in its place
     pub course_stays : (before at later : NetworkEntry L) → at ≡ after_ready (Some number) before → IsServiceOutcome stream turns old new (Ok None) (with_gate gate at) later
         → CourseTo before later (set clients place new)
     course_stays before at later ready comes = by (subst (λ (d : NetworkEntry L). IsServiceOutcome stream turns old new (Ok None) (with_gate gate d) later) ready comes)
@@ -157,7 +157,7 @@ module _ {L : Type 0} (gated : Bool) (stream : Stream L) where
         by (inl (none, since, still)) = (_, went waits before later (set clients place new) (ap (λ (d : NetworkEntry L). d.events) still ∙ sym (none_more _)) (none, since, refl))
         by (inr (one, still)) = (_, went (anew new.since) before later (set clients place new) (ap (λ (d : NetworkEntry L). d.events) still) (one, refl, refl))
 
-    -- and was closed
+    -- it was closed
     pub course_leaves : (why : CloseReason) (before at mid later : NetworkEntry L) → at ≡ after_ready (Some number) before
         → IsServiceOutcome stream turns old new (Ok (Some why)) (with_gate gate at) mid → later ≡ with_removed mid (removed_of new why)
         → CourseTo before later (remove clients place)
@@ -168,7 +168,7 @@ module _ {L : Type 0} (gated : Bool) (stream : Stream L) where
           ∙ ap (λ (d : NetworkEntry L). followed (handed_back (removed_of new why)) (with_gate gate d).events) ready) (why, since, ends, refl, refl),
     )
 
-    -- and the clock failed
+    -- the clock failed
     pub course_stops : (broken : Broken) (before at later : NetworkEntry L) → at ≡ after_ready (Some number) before
         → IsServiceOutcome stream turns old new (Err broken) (with_gate gate at) later → CourseTo before later (set clients place new)
     course_stops broken before at later ready (since, still) = (

@@ -17,7 +17,7 @@ use Rattle.connections.specs.declared.connection_table.ConnectionTable.{Connecti
 abbrev pub IsSentWhole : {L : Type 0} → Client L → Type 0
 IsSentWhole client = IsSomeAnd client.answer (λ answer. length answer.bytes.items ≤ answer.sent)
 
--- When a connection may be closed for a reason: as done, if its whole response was sent; as broken, if a call of its stream failed.
+-- When a connection may be closed for a given reason: as done, if its whole response was sent; as broken, if a call on its stream failed.
 abbrev pub MayBeClosed : {L : Type 0} → Stream L → CloseReason → Client L → Type 0
 MayBeClosed stream Done client = IsSentWhole client
 MayBeClosed stream Broken client = HasFailed (stream.failed client.stream)
@@ -26,8 +26,8 @@ MayBeClosed stream TimedOut client = ⊤
 MayBeClosed stream Evicted client = ⊤
 MayBeClosed stream Closing client = ⊤
 
--- Why a connection that was just read or written is closed: its whole response was sent; or a call of its stream failed; or it has no response yet, and its request
--- can't be received.
+-- Why a connection that has just been read from or written to is closed: its whole response was sent; or a call on its stream failed; or it has no response yet, and
+-- its request can't be received.
 abbrev pub EndsFor : {L : Type 0} → Stream L → CloseReason → Client L → Type 0
 EndsFor stream Done client = IsSentWhole client
 EndsFor stream Broken client = HasFailed (stream.failed client.stream)
@@ -50,7 +50,7 @@ timeout = 30000
 abbrev pub grace : ℕ
 grace = 1000
 
--- a connection has timed out: its time limit has expired
+-- a connection has timed out: the time limit has expired
 abbrev pub IsLate : {L : Type 0} → ℕ → Client L → Type 0
 IsLate now client = timeout ≤ now - client.since
 
@@ -62,7 +62,7 @@ AreFull clients = (most_clients ≤ length clients) ⊎ (most_bytes ≤ bytes_he
 abbrev pub IsFull : {L : Type 0} → ConnectionTable L → Type 0
 IsFull table = AreFull table.clients.items
 
--- the rule for connections that timed out: clients and orders
+-- the rule for connections that have timed out: clients and orders
 abbrev pub timeout_rule : ℕ → Rule
 timeout_rule now = record { orders_too = true; least = timeout; now = now; why = TimedOut }
 
@@ -70,7 +70,7 @@ timeout_rule now = record { orders_too = true; least = timeout; now = now; why =
 abbrev pub eviction_rule : ℕ → Rule
 eviction_rule now = record { orders_too = false; least = grace; now = now; why = Evicted }
 
--- the rule for too many bytes in memory: only clients, or orders too
+-- the rule for too many bytes in memory: clients, and optionally orders too
 abbrev pub byte_limit_rule : Bool → Rule
 byte_limit_rule orders_too = record { orders_too = orders_too; least = 0; now = 0; why = Evicted }
 
@@ -100,7 +100,7 @@ IsEvicted now old removed new = AreFull old × IsClosedByRule (eviction_rule now
 abbrev pub IsClosed : {L : Type 0} → List (Client L) → Removed L → List (Client L) → Type 0
 IsClosed old removed new = IsOut Closing 0 old removed new
 
--- these were handed back to the network, one by one
+-- the given connections were handed back to the network, one by one
 abbrev pub with_all_removed : {L : Type 0} → NetworkEntry L → List (Removed L) → NetworkEntry L
 with_all_removed network gone = record network { left = option_map (λ before. before ++ gone) network.left; events = option_map (λ earlier. earlier ++ map handed_back gone) network.events }
 
@@ -108,7 +108,7 @@ with_all_removed network gone = record network { left = option_map (λ before. b
 abbrev pub IsClosedAt : {L : Type 0} → CloseReason → ℕ → List (Client L) → NetworkEntry L → List (Client L) → NetworkEntry L → Type 0
 IsClosedAt {L} why place old before new later = (removed : Removed L) × IsOut why place old removed new × (later ≡ with_removed before removed)
 
--- some connections were closed and handed back, one by one
+-- the given connections were closed and handed back, one by one
 pub record AreClosedByRule {L : Type 0} (Goes : List (Client L) → Removed L → List (Client L) → Type 0) (before later : NetworkEntry L) (old new : ConnectionTable L) : Type 0 where
   pub came : new.came ≡ old.came
   pub counted : new.counted ≡ old.counted

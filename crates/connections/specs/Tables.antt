@@ -25,17 +25,17 @@ bytes_of client = length client.got.items + answer_bytes client.answer
 abbrev pub bytes_held : {L : Type 0} → List (Client L) → ℕ
 bytes_held clients = sum_by bytes_of clients
 
--- whether a rule applies to connections of this listener: clients always count, orders only if they are included
+-- whether a rule applies to connections from the given listener: clients always count, orders only if they are included
 abbrev pub is_among : Bool → Listener → Bool
 is_among orders_too Clients = true
 is_among orders_too Orders = orders_too
 
--- among the connections that count, none has been waiting longer: no other time limit began earlier
+-- a connection has been waiting longest among those that count: none of their time limits began earlier
 pub record HasWaitedLongest {L : Type 0} (orders_too : Bool) (clients : List (Client L)) (client : Client L) : Type 0 where
   pub among : is_among orders_too client.listener ≡ true
   pub first : All (λ other. is_among orders_too other.listener ≡ true → client.since ≤ other.since) clients
 
--- the earlier of two connections, each given by its place and the time at which its time limit began; the first one, if the second doesn't count
+-- the earlier of two connections, each given by its place and the time at which its time limit began; or the first one, if the second doesn't count
 abbrev pub earlier : Option (ℕ × ℕ) → Bool → ℕ → ℕ → Option (ℕ × ℕ)
 earlier found false place since = found
 earlier None true place since = Some (place, since)
@@ -49,20 +49,20 @@ AreUnseen orders_too clients = All (λ client. is_among orders_too client.listen
 abbrev pub most_clients : ℕ
 most_clients = 512
 
--- the maximum number of bytes that all of them together hold in memory: 64 MiB
+-- the maximum number of bytes that all open connections together hold in memory: 64 MiB
 abbrev pub most_bytes : ℕ
 most_bytes = 67108864
 
--- the place of the connection with this number, if the table contains it
+-- the place of the connection with the given number, if the table contains it
 abbrev pub place_in : {L : Type 0} → List (Client L) → ℕ → Option ℕ
 place_in clients number = position (λ client. client.number == number) clients
 
--- the number of clients that a connection from this listener counts as
+-- the number of clients that a connection from the given listener counts as
 abbrev pub count_at : Listener → ℕ
 count_at Clients = 1
 count_at Orders = 0
 
--- the number of clients among these connections
+-- the number of clients among the given connections
 abbrev pub clients_among : {L : Type 0} → List (Accepted L) → ℕ
 clients_among all_accepted = sum_by (λ accepted. count_at accepted.listener) all_accepted
 
@@ -73,7 +73,7 @@ IsUnsent taken Nobody = ⊤
 IsUnsent taken NotNow = ⊤
 IsUnsent taken Full = ⊤
 
--- a connection from this listener may be accepted: an order always, a client only if clients are allowed
+-- a connection from the given listener may be accepted: an order always, a client only if clients are allowed
 abbrev pub MayCome : Bool → Listener → Type 0
 MayCome clients_too Clients = clients_too ≡ true
 MayCome clients_too Orders = ⊤
@@ -85,7 +85,7 @@ IsWanted clients_too Nobody = ⊤
 IsWanted clients_too NotNow = ⊤
 IsWanted clients_too Full = ⊤
 
--- What happens on a network: a connection is accepted, handed back, or reported as ready; the clock shows a time; the system has no room for another connection; or a
+-- What happens on a network: a connection is accepted, handed back, or reported as ready; the clock returns a time; the system has no room for another connection; or a
 -- call fails.
 pub data Event (L : Type 0) : Type 0 where
   let_in : Accepted L → Event L
@@ -95,8 +95,8 @@ pub data Event (L : Type 0) : Type 0 where
   ran_out : Event L
   broke : Event L
 
--- What is known of a network: the connections accepted so far, in the state in which they were accepted, and those that were handed back; how many calls failed, and
--- how many waits succeeded; and all events, in order.
+-- What is known about a network: the connections accepted so far, each in the state that it was accepted in; those handed back; how many calls have failed, and how
+-- many waits have succeeded; and all events, in order.
 pub record NetworkEntry (L : Type 0) : Type 0 where
   pub came : Option (List (Accepted L))
   pub left : Option (List (Removed L))
@@ -104,18 +104,18 @@ pub record NetworkEntry (L : Type 0) : Type 0 where
   pub waits : Option ℕ
   pub events : Option (List (Event L))
 
--- the events, with one more added
+-- the events, with another one added
 abbrev pub followed : {L : Type 0} → Event L → Option (List (Event L)) → Option (List (Event L))
 followed event events = option_map (λ earlier. earlier ++ event ∷ []) events
 
--- the accepted connections after one more `accept`
+-- the accepted connections after another `accept`
 abbrev pub after_accept : {L : Type 0} → AcceptOutcome L → NetworkEntry L → NetworkEntry L
 after_accept (One accepted) network = record network { came = option_map (λ all_accepted. all_accepted ++ accepted ∷ []) network.came; events = followed (let_in accepted) network.events }
 after_accept Nobody network = network
 after_accept NotNow network = network
 after_accept Full network = record network { events = followed ran_out network.events }
 
--- the connections that were handed back, with one more
+-- the connections that were handed back, with another one
 abbrev pub with_removed : {L : Type 0} → NetworkEntry L → Removed L → NetworkEntry L
 with_removed network removed = record network { left = option_map (λ all_removed. all_removed ++ removed ∷ []) network.left; events = followed (handed_back removed) network.events }
 
@@ -128,7 +128,7 @@ after_ready None network = network
 abbrev pub with_failure : {L : Type 0} → NetworkEntry L → NetworkEntry L
 with_failure network = record network { failed = one_more network.failed; events = followed broke network.events }
 
--- the clock showed a time
+-- the clock returned a time
 abbrev pub with_moment : {L : Type 0} → NetworkEntry L → ℕ → NetworkEntry L
 with_moment network now = record network { events = followed (showed now) network.events }
 
@@ -137,7 +137,7 @@ abbrev pub after_look : {L : Type 0} → Result ℕ Broken → NetworkEntry L �
 after_look (Ok now) network = with_moment network now
 after_look (Err broken) network = with_failure network
 
--- after one more wait, which may have failed
+-- after another wait, which may have failed
 abbrev pub after_wait : {L : Type 0} → Result (Unit {0}) Broken → NetworkEntry L → NetworkEntry L
 after_wait (Ok value) network = record network { waits = one_more network.waits }
 after_wait (Err broken) network = with_failure network

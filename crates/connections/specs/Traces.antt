@@ -20,16 +20,16 @@ pub record ResponseAt : Type 0 where
 
 -- ---- one connection is serviced
 
--- How the servicing of a connection ends: it stays open and waits; or its request was processed, and its time limit restarts at a given time; or it is closed; or the
--- clock fails.
+-- How servicing a connection ends: it stays open and waits; or its request was processed, and its time limit restarts at a given time; or it is closed; or the clock
+-- fails.
 pub data ServiceEnd (L : Type 0) : Type 0 where
   waits : ServiceEnd L
   anew : ℕ → ServiceEnd L
   leaves : Removed L → ServiceEnd L
   stops : ServiceEnd L
 
--- The network reported a connection as ready, by its number, and the connection is serviced. If wrong codes are counted, the clock shows a time first. Then the request
--- of the connection is processed, or it isn't.
+-- The network reported a connection as ready, by its number, and the connection is serviced. If wrong codes are counted, the clock is read first. Then the connection's
+-- request may be processed.
 pub record ServiceStep (L : Type 0) : Type 0 where
   pub number : ℕ
   pub gate : Option ℕ
@@ -40,21 +40,21 @@ pub record ServiceStep (L : Type 0) : Type 0 where
 abbrev pub response_of : {L : Type 0} → Client L → Option (List ℕ)
 response_of client = option_map (λ answer. answer.bytes.items) client.answer
 
--- the time at which a request is processed: the one that the clock has just shown if wrong codes are counted, otherwise 0
+-- the time at which a request is processed: the one just read from the clock if wrong codes are counted, otherwise 0
 abbrev pub IsMomentOf : Bool → Option ℕ → ℕ → Type 0
 IsMomentOf true (Some now) moment = moment ≡ now
 IsMomentOf true None moment = ⊥
 IsMomentOf false (Some now) moment = ⊥
 IsMomentOf false None moment = moment ≡ 0
 
--- The response is unchanged. Or there was none, the request was processed, and the connection now has this response.
+-- The response is unchanged. Or there was none, the request was processed, and the connection now has the given response.
 abbrev pub HadResponses : {L : Type 0} → Bool → Option ℕ → List ResponseAt → Client L → Client L → Type 0
 HadResponses gated gate [] old new = response_of new ≡ response_of old
 HadResponses gated gate (turn ∷ []) old new = (turn.number ≡ old.number) × (old.answer ≡ None) × (response_of new ≡ Some turn.answer) × IsMomentOf gated gate turn.moment
 HadResponses gated gate (turn ∷ other ∷ more) old new = ⊥
 
--- The connection is back in its place. Its time limit is unchanged if its request wasn't processed or the clock failed afterwards; otherwise it is a new one. Or the
--- connection was closed, for a reason that applies.
+-- The connection is back in its place. Its time limit is unchanged if its request wasn't processed or the clock failed afterwards; otherwise the time limit is a new
+-- one. Or the connection was closed, for a reason that applies.
 abbrev pub EndsService : {L : Type 0} → Stream L → ServiceEnd L → List ResponseAt → List (Client L) → ℕ → Client L → Client L → List (Client L) → Type 0
 EndsService stream waits turns clients place old new later = (turns ≡ []) × (new.since ≡ old.since) × (later ≡ set clients place new)
 EndsService stream (anew now) turns clients place old new later = ((turn : ResponseAt) × (turns ≡ turn ∷ [])) × (new.since ≡ now) × (later ≡ set clients place new)
@@ -62,7 +62,7 @@ EndsService stream (leaves removed) turns clients place old new later =
     (why : CloseReason) × (new.since ≡ old.since) × EndsFor stream why new × (removed ≡ removed_of new why) × (later ≡ remove clients place)
 EndsService stream stops turns clients place old new later = (new.since ≡ old.since) × (later ≡ set clients place new)
 
--- an open connection was serviced: it was read from or written to, and is the same connection
+-- an open connection was serviced: it was read from or written to, and is still the same connection
 pub record IsServicedSo {L : Type 0} (gated : Bool) (stream : Stream L) (service_step : ServiceStep L) (clients later : List (Client L)) : Type 0 where
   pub place : ℕ
   pub within : place < length clients
@@ -75,13 +75,13 @@ pub record IsServicedSo {L : Type 0} (gated : Bool) (stream : Stream L) (service
   pub had : HadResponses gated service_step.gate service_step.turns old new
   pub ends : EndsService stream service_step.service_end service_step.turns clients place old new later
 
--- the network, after the clock showed a time if wrong codes are counted
+-- the network, after the clock was read if wrong codes are counted
 abbrev pub with_gate : {L : Type 0} → Option ℕ → NetworkEntry L → NetworkEntry L
 with_gate None network = network
 with_gate (Some now) network = with_moment network now
 
 -- The outcome after a connection was read from or written to. It stays open: with the same time limit if its request wasn't processed, otherwise with one that starts
--- at the time that the clock then shows. Or it is closed, for a reason that applies. Or the clock failed.
+-- at the time that the clock then returns. Or it is closed, for a reason that applies. Or the clock failed.
 abbrev pub IsServiceOutcome : {L : Type 0} → Stream L → List ResponseAt → Client L → Client L → Result (Option CloseReason) Broken → NetworkEntry L → NetworkEntry L → Type 0
 IsServiceOutcome stream turns old new (Ok None) before later =
     ((turns ≡ []) × (new.since ≡ old.since) × (later ≡ before)) ⊎ (((turn : ResponseAt) × (turns ≡ turn ∷ [])) × (later ≡ with_moment before new.since))
@@ -90,8 +90,8 @@ IsServiceOutcome stream turns old new (Err broken) before later = (new.since ≡
 
 -- ---- one step
 
--- One step. The clock is read, and connections that have timed out are closed. Or a connection is accepted; or serviced; or reported as ready although it isn't open
--- any more; or closed to make room. Or the system has no room for another connection, and one is closed for it, or none is. Or a call of the network fails.
+-- One step. The clock is read, and connections that have timed out are closed. Or a connection is accepted; or serviced; or reported as ready although it is no longer
+-- open; or closed to make room. Or the system has no room for another connection, and one may be closed to make room. Or a call to the network fails.
 pub data TraceStep (L : Type 0) : Type 0 where
   looks : ℕ → List (Removed L) → TraceStep L
   enters : Accepted L → TraceStep L
@@ -134,7 +134,7 @@ responses_at (makes_way removed) = []
 responses_at keeps_out = []
 responses_at fails = []
 
--- the time that the clock showed last, if it has shown one yet
+-- the time that the clock most recently returned, if it has been read
 abbrev pub shown_at_gate : Option ℕ → Option ℕ → Option ℕ
 shown_at_gate None shown = shown
 shown_at_gate (Some now) shown = Some now
@@ -155,7 +155,7 @@ shown_after (makes_way removed) shown = shown
 shown_after keeps_out shown = shown
 shown_after fails shown = shown
 
--- a connection is accepted, and its time limit begins at the time that the clock showed last
+-- a connection is accepted, and its time limit begins at the time that the clock most recently returned
 pub record IsAccepted {L : Type 0} (stream : Stream L) (shown : Option ℕ) (accepted : Accepted L) (clients later : List (Client L)) : Type 0 where
   pub now : ℕ
   pub at : shown ≡ Some now
@@ -164,12 +164,12 @@ pub record IsAccepted {L : Type 0} (stream : Stream L) (shown : Option ℕ) (acc
   pub fresh : IsNew accepted client.number now client
   pub own : IsOf stream accepted.stream client
 
--- exactly the connections whose time limit has expired are closed; none of the open ones has timed out
+-- exactly the connections whose time limit has expired are closed; none of those still open has timed out
 pub record ClosesLate {L : Type 0} (now : ℕ) (clients : List (Client L)) (gone : List (Removed L)) (later : List (Client L)) : Type 0 where
   pub late : FoldsTo (IsClosedByRule (timeout_rule now)) clients gone later
   pub all : All (λ client. now - client.since < timeout) later
 
--- a connection is closed because the table is full at the time that the clock showed last, or because too many bytes are held in memory
+-- a connection is closed because the table is full at the time that the clock most recently returned, or because too many bytes are held in memory
 abbrev pub IsEviction : {L : Type 0} → Option ℕ → List (Client L) → Removed L → List (Client L) → Type 0
 IsEviction shown clients removed later = ((now : ℕ) × (shown ≡ Some now) × IsEvicted now clients removed later) ⊎ IsClosedForBytes clients removed later
 
@@ -186,7 +186,7 @@ Changes gated stream fails shown clients later = later ≡ clients
 
 -- ---- several steps
 
--- a snapshot: the time that the clock showed last, if it has shown one yet, and the open connections
+-- a snapshot: the time that the clock most recently returned, if it has been read, and the open connections
 pub record Scene (L : Type 0) : Type 0 where
   pub shown : Option ℕ
   pub clients : List (Client L)
@@ -197,7 +197,7 @@ scene shown clients = record { shown = shown; clients = clients }
 abbrev pub Leads : {L : Type 0} → Bool → Stream L → Scene L → TraceStep L → Scene L → Type 0
 Leads gated stream old step new = (new.shown ≡ shown_after step old.shown) × Changes gated stream step old.shown old.clients new.clients
 
--- The open connections changed through a list of steps: the events of these steps are what happened on the network, and these responses were produced.
+-- A list of steps changed the open connections: the events of these steps are what happened on the network, and the given responses were produced.
 pub record Trace {L : Type 0} (gated : Bool) (stream : Stream L) (turns : List ResponseAt) (from to : Option ℕ) (before later : NetworkEntry L) (old new : List (Client L)) : Type 0 where
   pub steps : List (TraceStep L)
   pub told : later.events ≡ option_map (λ earlier. earlier ++ flat_map events_of steps) before.events

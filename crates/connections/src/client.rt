@@ -14,7 +14,7 @@ use streams::Broken;
 /// The number of bytes to read at once.
 const CHUNK: usize = 16384;
 
-/// The listener that accepted a connection. It determines what the connection sends.
+/// The listener that accepted a connection, which determines what the connection sends.
 #[derive(Clone, Copy)]
 pub enum Listener {
     /// Clients, which send requests over HTTP.
@@ -23,14 +23,14 @@ pub enum Listener {
     Orders,
 }
 
-/// An accepted connection: its listener and its stream.
+/// An accepted connection, with its listener and its stream.
 #[derive(Drop)]
 pub struct Accepted<L> {
     pub listener: Listener,
     pub stream: L,
 }
 
-/// A response, and the number of its bytes already sent.
+/// A response, and how many of its bytes have been sent.
 #[derive(Drop)]
 pub struct PendingResponse {
     pub bytes: Vec<u8>,
@@ -38,8 +38,8 @@ pub struct PendingResponse {
 }
 
 /// An open connection: its listener, its stream, its number in the order of acceptance, and when its current time limit began,
-/// in milliseconds. It keeps the bytes received, the response once there is one, and how many bytes of the request are still
-/// to come after the response. Those are read and discarded.
+/// in milliseconds. It keeps the bytes received, the response once there is one, and how many bytes of the request are still to
+/// come after the response, which are read and discarded.
 #[derive(Drop)]
 pub struct Client<L> {
     pub listener: Listener,
@@ -54,7 +54,7 @@ pub struct Client<L> {
 /// How far a request has been read.
 #[derive(Clone, Copy)]
 pub enum ReadProgress {
-    /// As many bytes as requested have arrived.
+    /// The requested number of bytes has arrived.
     Enough,
     /// Fewer bytes have arrived, and more may come.
     Waits,
@@ -114,8 +114,8 @@ fn receive_once<L: Stream>(stream: &mut L, got: &mut Vec<u8>) -> Result<Received
     }
 }
 
-/// Receives the bytes that have arrived, until there are `wanted` bytes in all or no more have arrived. Receives fewer than
-/// `CHUNK` bytes more than that, so that a client that keeps sending doesn't delay the others.
+/// Receives the bytes that have arrived, until there are `wanted` bytes in total or no more have arrived. Receives fewer than
+/// `CHUNK` bytes beyond that, so that a client that keeps sending doesn't delay the others.
 fn receive_up_to<L: Stream>(
     stream: &mut L,
     got: &mut Vec<u8>,
@@ -139,8 +139,8 @@ fn receive_up_to<L: Stream>(
     Ok(ReadProgress::Enough)
 }
 
-/// Sends the rest of a response, until all of it is sent or the stream accepts no more for now. Returns whether all of it is
-/// sent.
+/// Sends the rest of a response, until all of it has been sent or the stream accepts no more for now. Returns whether all of it
+/// has been sent.
 pub fn deliver<L: Stream>(stream: &mut L, answer: &mut PendingResponse) -> Result<bool, Broken>
     ensures delivers { Delivers (stream_of L.held L.taken L.failed) stream.old stream.new answer.old.bytes.items answer.old.sent answer.new.sent }
     ensures same { answer.new.bytes.items ≡ answer.old.bytes.items }
@@ -158,8 +158,8 @@ pub fn deliver<L: Stream>(stream: &mut L, answer: &mut PendingResponse) -> Resul
     Ok(true)
 }
 
-/// Reads and discards up to `unread_body_bytes` bytes of a stream, as far as they have arrived, and decreases the count
-/// accordingly. Returns whether no more of them will come.
+/// Reads and discards up to `unread_body_bytes` bytes from a stream, as far as they have arrived, and decreases the count
+/// accordingly. Returns whether there are none left to come.
 fn drop_bytes<L: Stream>(stream: &mut L, unread_body_bytes: &mut usize) -> Result<bool, Broken>
     ensures untold { L.taken stream.new ≡ L.taken stream.old }
     ensures less { unread_body_bytes.new ≤ unread_body_bytes.old }
@@ -179,7 +179,7 @@ fn drop_bytes<L: Stream>(stream: &mut L, unread_body_bytes: &mut usize) -> Resul
 }
 
 impl<L: Stream> Client<L> {
-    /// Returns a connection that was just accepted, from which nothing has been read yet.
+    /// Returns a connection that has just been accepted; nothing has been read from it yet.
     pub fn new(alloc: Global, accepted: Accepted<L>, number: u64, since: u64) -> Client<L>
         requires { HasTaken (L.taken accepted.stream) [] }
         ensures new { IsNew accepted number since result }
@@ -197,7 +197,7 @@ impl<L: Stream> Client<L> {
         }
     }
 
-    /// Converts the connection to a removed one, with the reason.
+    /// Converts the connection to a removed one, with the given reason.
     pub fn into_removed(self, why: CloseReason) -> Removed<L>
     where
         L: Drop,
@@ -211,8 +211,8 @@ impl<L: Stream> Client<L> {
         }
     }
 
-    /// Receives more from a connection that has no response yet, until there are `wanted` bytes in all or no more have arrived.
-    /// Receives fewer than 16,384 bytes more than that.
+    /// Receives more from a connection that has no response yet, until there are `wanted` bytes in total or no more have
+    /// arrived. Receives fewer than 16,384 bytes beyond that.
     pub fn receive(&mut self, wanted: usize) -> Result<ReadProgress, ReceiveError>
         requires { self.old.answer ≡ None }
         ensures receives { Receives (stream_of L.held L.taken L.failed) self.old.stream self.new.stream self.old.got.items self.new.got.items }
@@ -228,8 +228,8 @@ impl<L: Stream> Client<L> {
         receive_up_to(&mut self.stream, &mut self.got, wanted)
     }
 
-    /// Reads and discards the rest of the request, on a connection that has its response, as far as the rest has arrived.
-    /// Returns whether no more will come.
+    /// Reads and discards the rest of the request, as far as it has arrived, on a connection that has its response. Returns
+    /// whether nothing more will come.
     pub fn drop_unread(&mut self) -> Result<bool, Broken>
         requires { IsSome self.old.answer }
         ensures is { (start : L) → IsOf (stream_of L.held L.taken L.failed) start self.old → IsOf (stream_of L.held L.taken L.failed) start self.new }

@@ -1,5 +1,5 @@
-//! Which connections are closed before they have their response: those that timed out, those that make room for another, and
-//! all of them at the end.
+//! Which connections are closed before they have their response: those that have timed out, those closed to make room for
+//! another, and all of them at the end.
 
 ghost use Rattle.std.specs.Prelude.{◌≡◌, ◌⊎◌, ◌≤◌, ◌<◌, ◌-◌, [], false, length, true};
 ghost use Rattle.std.specs.List.{All};
@@ -19,8 +19,8 @@ pub const TIMEOUT: u64 = 30_000;
 /// How long a new connection is protected from being closed to make room, in milliseconds.
 const GRACE: u64 = 1_000;
 
-/// A rule for closing the connections that have been waiting longest: whether it also applies to orders, the minimum waiting
-/// time and the current time, both in milliseconds, and the reason.
+/// A rule for closing the connections that have been waiting longest: whether it also applies to orders; the minimum waiting
+/// time and the current time, both in milliseconds; and the reason for closing.
 #[derive(Clone, Copy)]
 pub struct Rule {
     pub orders_too: bool,
@@ -29,7 +29,7 @@ pub struct Rule {
     pub why: CloseReason,
 }
 
-/// Returns the rule for connections that timed out, of clients and of orders.
+/// Returns the rule for connections that have timed out: clients and orders.
 fn timeout_rule(now: u64) -> Rule
     ensures { result ≡ timeout_rule now }
 {
@@ -53,7 +53,7 @@ fn eviction_rule(now: u64) -> Rule
     }
 }
 
-/// Returns the rule for too many bytes in memory: it closes only clients, or orders too.
+/// Returns the rule for too many bytes in memory: it closes clients, and optionally orders too.
 fn byte_limit_rule(orders_too: bool) -> Rule
     ensures { result ≡ byte_limit_rule orders_too }
 {
@@ -147,8 +147,7 @@ fn is_full<L>(table: &ConnectionTable<L>) -> bool
     table.clients.len() >= MAX_CLIENTS || bytes_held(table.clients.as_slice()) >= MAX_BUFFERED_BYTES
 }
 
-/// Closes a client to make room for the next connection, because the system has no room for both. Returns whether a client was
-/// closed.
+/// Closes a client to make room for the next connection, for which the system has no room. Returns whether a client was closed.
 pub fn evict_one<D: Network>(
     network: &mut D,
     table: &mut ConnectionTable<D::Stream>,
@@ -160,7 +159,7 @@ pub fn evict_one<D: Network>(
     close_one(network, table, eviction_rule(now))
 }
 
-/// Makes room in the table for one more connection, and returns whether there is room. If the table is full and clients may be
+/// Makes room in the table for another connection, and returns whether there is room. If the table is full and clients may be
 /// closed, closes the client that has been waiting longest, provided that it has waited for at least a second. Orders are never
 /// closed to make room.
 pub fn evict_if_full<D: Network>(

@@ -13,7 +13,7 @@ use std::alloc::{AllocError, Global};
 /// The maximum number of open connections.
 pub const MAX_CLIENTS: usize = 512;
 
-/// The maximum number of bytes that all of them together hold in memory.
+/// The maximum number of bytes that all open connections together hold in memory.
 pub const MAX_BUFFERED_BYTES: usize = 64 << 20;
 
 /// Returns the length of a response, or 0 if there is none.
@@ -26,7 +26,7 @@ fn answer_len(answer: &Option<PendingResponse>) -> usize
     }
 }
 
-/// Returns the number of bytes that these connections hold in memory, or the maximum of the type if it is larger.
+/// Returns the number of bytes that the given connections hold in memory, or the type's maximum if there are more.
 pub fn bytes_held<L>(clients: &[Client<L>]) -> usize
     ensures { result ≡ min (bytes_held clients.now) (2 ^ 64 - 1) }
 {
@@ -38,7 +38,7 @@ pub fn bytes_held<L>(clients: &[Client<L>]) -> usize
     held
 }
 
-/// Returns whether a rule applies to connections of this listener: clients always count, orders only if they are included.
+/// Returns whether a rule applies to connections from the given listener: clients always count, orders only if they are included.
 fn is_among(orders_too: bool, listener: Listener) -> bool
     ensures { result ≡ is_among orders_too listener }
 {
@@ -48,8 +48,8 @@ fn is_among(orders_too: bool, listener: Listener) -> bool
     }
 }
 
-/// Returns the earlier of two connections, each given by its place and the time at which its time limit began; the first one,
-/// if the second doesn't count.
+/// Returns the earlier of two connections, each given by its place and the time at which its time limit began; or the first
+/// one, if the second doesn't count.
 fn earlier(
     found: Option<(usize, u64)>,
     is_among: bool,
@@ -86,7 +86,7 @@ pub fn longest_waiting<L>(clients: &[Client<L>], orders_too: bool) -> Option<usi
     }
 }
 
-/// Returns the place of the connection with this number; `None` if the table doesn't contain it.
+/// Returns the place of the connection with the given number; `None` if the table doesn't contain it.
 pub fn place_of_number<L>(clients: &[Client<L>], number: u64) -> Option<usize>
     ensures place { result ≡ place_in clients.now number }
     ensures within { IfSome result (λ place. place < length clients.now) }
@@ -95,7 +95,7 @@ pub fn place_of_number<L>(clients: &[Client<L>], number: u64) -> Option<usize>
     clients.iter().position(|client| client.number == number)
 }
 
-/// Returns the number of clients that a connection from this listener counts as.
+/// Returns the number of clients that a connection from the given listener counts as.
 fn count_at(listener: Listener) -> u64
     ensures { result ≡ count_at listener }
 {
@@ -160,7 +160,7 @@ impl<L: Stream> ConnectionTable<L> {
         self.clients.remove(place)
     }
 
-    /// Puts a connection back in the place from which it was removed.
+    /// Puts a connection back in the place that it was removed from.
     pub fn put_back_at(&mut self, place: usize, client: Client<L>)
         requires within { place ≤ length self.old.clients.items }
         requires place { length self.old.clients.items < most_clients }

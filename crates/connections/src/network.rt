@@ -14,28 +14,27 @@ use streams::Broken;
 pub enum AcceptOutcome<L> {
     /// The next connection.
     One(Accepted<L>),
-    /// No connection is pending, or none of a kind that may be accepted now.
+    /// No connection is pending, or none that may be accepted now.
     Nobody,
     /// The next connection failed before it was accepted. Another one may be pending.
     NotNow,
-    /// The system has no descriptor or memory left for another connection. Closing one makes room, and a connection may be
-    /// pending.
+    /// The system has no descriptor or memory left for another connection. Closing a connection makes room; one may be pending.
     Full,
 }
 
-/// A network accepts connections of clients and of orders, and reports which ones are ready. Readiness isn't a guarantee: a
+/// A network accepts connections from clients and for orders, and reports which ones are ready. Readiness isn't a guarantee: a
 /// connection that was reported may have nothing to read. A connection that ends is handed back, with the reason, and closed. A
-/// network has a clock.
+/// network also has a clock.
 pub trait Network {
     type Stream: Stream + Drop;
 
-    /// What is known of the network.
+    /// What is known about the network.
     ghost known: { Self → NetworkEntry Self.Stream };
 
     /// Whether a connection might be pending.
     ghost pending: { Self → Bool };
 
-    /// Returns the time of the clock, in milliseconds.
+    /// Returns the clock's current time, in milliseconds.
     fn now(&mut self) -> Result<u64, Broken>
         ensures { known self.new ≡ after_look result (known self.old) };
 
@@ -47,7 +46,7 @@ pub trait Network {
     fn next_ready(&mut self) -> Option<u64>
         ensures { known self.new ≡ after_ready result (known self.old) };
 
-    /// Accepts the next pending connection and assigns it this number. Orders come first, and clients are accepted only if
+    /// Accepts the next pending connection and assigns it the given number. Orders come first, and clients are accepted only if
     /// `clients_too` is set.
     fn accept(&mut self, number: u64, clients_too: bool) -> AcceptOutcome<Self::Stream>
         ensures fresh { IsUnsent Self.Stream.taken result }

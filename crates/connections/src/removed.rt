@@ -6,7 +6,7 @@ use std::alloc::AllocError;
 /// Why a connection is closed.
 #[derive(Clone, Copy)]
 pub enum CloseReason {
-    /// Its whole response was sent.
+    /// The whole response has been sent.
     Done,
     /// Its stream failed.
     Broken,

@@ -9,7 +9,7 @@ use streams::Broken;
 /// The result of a read.
 #[derive(Clone, Copy)]
 pub enum Received {
-    /// This many bytes, at least one.
+    /// A number of bytes, at least one.
     Bytes(usize),
     /// No bytes yet.
     Nothing,
@@ -17,21 +17,21 @@ pub enum Received {
     End,
 }
 
-/// The bytes of a connection in both directions. No call blocks.
+/// The bytes of a connection, in both directions. No call blocks.
 pub trait Stream {
-    /// The bytes still to come, as far as they are known.
+    /// The bytes still to come, if known.
     ghost held: { Self → Option (List ℕ) };
 
-    /// The bytes accepted so far, as far as they are known.
+    /// The bytes accepted so far, if known.
     ghost taken: { Self → Option (List ℕ) };
 
-    /// The number of calls that failed so far, as far as is known.
+    /// The number of calls that have failed so far, if known.
     ghost failed: { Self → Option ℕ };
 
-    /// The number of calls that had nothing to read, or could write nothing, as far as is known.
+    /// The number of calls that had nothing to read or could write nothing, if known.
     ghost idle: { Self → Option ℕ };
 
-    /// Reads what has arrived to the start of the buffer, as far as it fits.
+    /// Reads what has arrived into the buffer, from its start, as far as it fits.
     ///
     /// If it returns `Broken`, nothing was read, and the contents of the buffer are unspecified.
     fn fetch(&mut self, room: &mut [u8]) -> Result<Received, Broken>

@@ -1,4 +1,4 @@
--- The officer's console and its policy. Their texts are the constants of this crate: the definitions state how these are put together.
+-- The officer's console and its policy. Their texts are built from the constants of this crate; the definitions specify how these are put together.
 use Rattle.std.specs.Prelude.{List, ◌++◌, codes, ℕ}
 use Rattle.console_page.specs.Policies.{policy_of}
 use Rattle.console_page.specs.declared.markup.TheConstants.{BODY, HEAD, TAIL}
@@ -45,7 +45,7 @@ page_of its_style its_script =
     ++ (codes "<script>" ++ (its_script ++ (codes "</script>"
     ++ TAIL.now)))))))
 
--- the page; the text is the same at any time
+-- the page; its text is always the same
 abbrev pub page_text : List ℕ
 page_text = page_of style script
 

@@ -4,7 +4,7 @@ use Rattle.base64.specs.Engines.{standard}
 use Rattle.base64.specs.GeneralPurpose.{encode_of}
 use Rattle.sha2.specs.Sha256.{sha256}
 
--- the source in a policy that allows one text and no other: its SHA-256, in base64
+-- the policy source that allows one text and no other: its SHA-256, in base64
 unfoldable pub hash_source : List ℕ → List ℕ
 hash_source text = codes "'sha256-" ++ (encode_of standard (sha256 text) ++ codes "'")
 

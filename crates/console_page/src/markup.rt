@@ -115,7 +115,7 @@ for example <b>paper 12/4</b> for batch 12 and teller 4.</p>
 </main>
 
 <footer><p><button id="sign-out" type="button">Sign out</button>
-<span id="keys-hint">Keyboard: <kbd>1</kbd> to <kbd>6</kbd> open the sections, <kbd>Tab</kbd> and <kbd>Enter</kbd> select, <kbd>Esc</kbd> leaves a field, then returns to the overview.</span></p></footer>
+<span id="keys-hint">Keyboard: <kbd>1</kbd> to <kbd>6</kbd> open the sections, <kbd>Tab</kbd> and <kbd>Enter</kbd> select, <kbd>Enter</kbd> in a field moves to the next, <kbd>Esc</kbd> leaves a field, then returns to the overview.</span></p></footer>
 <dialog id="ask" aria-labelledby="ask-title"><h2 id="ask-title" tabindex="-1"></h2><div id="ask-text"></div>
 <p class="acts"><button id="ask-no" type="button">Cancel (Esc)</button> <button id="ask-yes" type="button" class="main"></button></p></dialog>
 <div id="paper"></div>
@@ -128,7 +128,7 @@ const TAIL: &str = r#"
 "#;
 
 #[tactic(auto, unfolding(crate::specs::Page::page_of))]
-/// Returns the page that has this style and this script. The only error is that an allocation failed.
+/// Returns the page with the given style and script. The only error is a failed allocation.
 pub(crate) fn page_around(alloc: Global, style: &str, script: &str) -> Result<String, AllocError>
     ensures { IfOk result (λ text. string_bytes text ≡ page_of style.now script.now) }
 {

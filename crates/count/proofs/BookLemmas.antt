@@ -51,7 +51,7 @@ pub book-filled : (contest : Contest) (history : History) (holdings : List Holdi
 unfolding by_itself
 book-filled contest history holdings book h = finished-elected contest by_itself history book.fair book.right h
 
--- a stage whose action was drawn by a lot is next for that lot, and for the lot that the action itself names
+-- a stage whose action was decided by a given lot is next for that lot, and for the lot that the action itself names
 adds-next : (contest : Contest) (before : History) (lot : Option ℕ) (action : Action) (after : History) → drawn contest before lot (due_after contest before) ≡ Some action →
     (adds : Adds contest before action after) → IsNext contest before lot adds.stage
 adds-next contest before lot action after was adds =
@@ -61,7 +61,7 @@ pub adds-advances : (contest : Contest) (before : History) (lot : Option ℕ) (a
     Adds contest before action after → Advances contest before lot after
 adds-advances contest before lot action after was adds = record { stage = adds.stage; one_more = adds.one_more; next = adds-next contest before lot action after was adds }
 
--- and the history remains right for the lots that its own actions name
+-- and the history remains correct for the lots that its own actions name
 pub adds-right : (contest : Contest) (before : History) (lot : Option ℕ) (action : Action) (after : History) → IsRightByItself contest before →
     drawn contest before lot (due_after contest before) ≡ Some action →
     Adds contest before action after → IsRightByItself contest after

@@ -1,4 +1,4 @@
--- The laws of a count hold for every book by bundles, and a book that advances remains a book by bundles.
+-- The laws of a count hold for every bundle book, and a book that advances remains a bundle book.
 use Rattle.std.proofs.Common.{◌≡◌, ℕ, suc, zero, ◌+◌, ◌<◌, ◌≤◌, List, [], ◌∷◌, ◌++◌, length, map, replicate, reverse, Option, sym, ap, ◌∙◌, arith, subst, Some}
 use Rattle.std.specs.List.{AllByRecursion}
 use Rattle.std.proofs.lemmas.List.{length-reverse}
@@ -79,7 +79,7 @@ pub bundled-filled : (contest : Contest) (history : History) (bundles : List Bun
 unfolding by_itself
 bundled-filled contest history bundles places book h = finished-elected contest by_itself history book.fair book.right h
 
--- a stage with its figures and its newly elected candidates is what the law states for its action
+-- a stage with its figures and its newly elected candidates is the one that the law requires for its action
 pub figured-adds : (terms : Terms) (bundles : List Bundle) (old new : History) (action : Action) (bare : Stage) → IsFigured (contest_on terms bundles) old action bare → IsAdded terms old bare new →
     Adds (contest_on terms bundles) old action new
 figured-adds terms bundles old new action bare figured is_added =
@@ -103,7 +103,7 @@ places-adds contest old new action bundles adds =
     ap (λ (a : Action). places_after contest (begun a [] ∷ old) bundles) (sym adds.of_action)
     ∙ ap (λ (h : History). places_after contest h bundles) (sym adds.one_more)
 
--- a book that advances remains a book by bundles
+-- a book that advances remains a bundle book
 pub adds-bundled : (contest : Contest) (before : History) (lot : Option ℕ) (action : Action) (after : History) (bundles : List Bundle) (old new : List Placed) →
     IsBundled contest before bundles old → drawn contest before lot (due_after contest before) ≡ Some action →
     Adds contest before action after → new ≡ places_after contest after bundles → IsBundled contest after bundles new
@@ -122,7 +122,7 @@ own_lots contest handed [] right = tt
 own_lots contest handed (s ∷ before) right =
     (own_lots contest handed before right.0, record { was_due = drawn-own contest before (handed before s) (due_after contest before) s.action right.1.was_due; tells = right.1.tells })
 
--- stages that are right for some lots are right for the lots that they name themselves
+-- stages that are correct for some lots are correct for the lots that they themselves name
 pub some-own : (contest : Contest) (stages : History) → IsRightForSome contest stages → IsRightByItself contest stages
 some-own contest stages right = own_lots contest (λ before s. lot_for right.lots (length before + 1)) stages right.right
 
@@ -135,7 +135,7 @@ pub ruleset book_laws = (bundled-conserved, bundled-others, bundled-short)
 
 pub ruleset book_facts = (bundled-filled, adds-advances)
 
--- a lot that is due is among several, on borrowed stages
+-- a lot that is due is drawn among several candidates; stated for borrowed stages
 pub due-several : (contest : Contest) (lent stages : List Stage) (bundles : List Bundle) (places : List Placed) (due : Due) → lent ≡ stages → due ≡ due_after contest (reverse lent) →
     IsBundled contest (reverse stages) bundles places → IsAmongSeveral due
 due-several contest lent stages bundles places due same is book =

@@ -32,7 +32,7 @@ use Rattle.count.proofs.Law.ValueLemmas.{all_values, held, surplus-conserves}
 by_itself : History → Stage → Option ℕ
 by_itself before s = candidate_of s.action
 
--- a sum over the papers of bundles is the sum over the bundles, each times its number of papers
+-- a sum over the papers of bundles equals the sum over the bundles, each multiplied by its number of papers
 pub sum-papers : (f : List ℕ → ℕ) (b : Bundle) (bs : List Bundle) → sum_by f (papers_of (b ∷ bs)) ≡ b.1 * f b.0 + sum_by f (papers_of bs)
 sum-papers f b bs = sum_by-append f (replicate b.1 b.0) (papers_of bs) ∙ ap (λ n. n + sum_by f (papers_of bs)) (sum_by-replicate f b.1 b.0)
 
@@ -40,7 +40,7 @@ worth-papers : (f : Placed → ℕ) (at : List ℕ → Placed) (bundles : List B
 worth-papers f at [] = refl
 worth-papers f at (b ∷ bs) = ap (λ n. b.1 * f (at b.0) + n) (worth-papers f at bs) ∙ sym (sum-papers (λ p. f (at p)) b bs)
 
--- the same for the papers of a contest at their places
+-- the same equation for the papers of a contest at their places
 worth-places : (f : Placed → ℕ) (contest : Contest) (stages : History) (bundles : List Bundle) (places : List Placed) → contest.papers ≡ papers_of bundles →
     places ≡ places_after contest stages bundles →
     worth_placed f places bundles ≡ sum_by (λ p. f (placed (place contest stages p))) contest.papers
@@ -85,7 +85,7 @@ holder-few places bundles sound few h = omega (arith, worth-sound (value_to h) p
 pub lost-few : (contest : Contest) (stages : History) → IsContest contest → IsRightByItself contest stages → newest_lost stages ≤ max_units
 lost-few contest stages fair right = (newest_small contest (λ h t. candidate_of t.action) stages [] fair right (omega arith)).lost_small
 
--- the holders' sums are the votes of all numbers,
+-- the holders' sums are the votes for all candidate numbers,
 pub votes-figured : (contest : Contest) (before : History) (action : Action) (bundles : List Bundle) (moved : List Placed) (sums : List ℕ) → contest.papers ≡ papers_of bundles →
     moved ≡ places_after contest (begun action [] ∷ before) bundles →
     ((h : ℕ) → h ≤ max_candidates → slice_index sums h ≡ worth_placed (value_to h) moved bundles) →

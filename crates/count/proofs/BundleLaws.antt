@@ -21,11 +21,11 @@ use Rattle.std.proofs.lemmas.Map.Lookups.{exact_bytes}
 use Rattle.count.specs.Bundles.{Bundle, list_cmp, papers_of, IsBundle, AreBundles}
 use Rattle.count.proofs.BundleLemmas.{number_of}
 
--- 1 for a paper with the list, otherwise 0
+-- 1 for a paper with the given list, otherwise 0
 abbrev one_for : List ℕ → List ℕ → ℕ
 one_for list paper = cond (is_at (list_cmp list) paper) 1 0
 
--- the number of papers with a list is the number in its bundle
+-- the number of papers with a given list is the number stored in its bundle
 counted_at : (list : List ℕ) (b : Bundle) (bs : List Bundle) (o : Ordering) → list_cmp list b.0 ≡ o → IsStrictlySortedBy list_cmp (keys_of (b ∷ bs)) →
     b.1 * cond (is_eq o) 1 0 + number_of list bs ≡ unwrap_or (cond (is_eq o) (Some b.1) (lookup (is_at (list_cmp list)) bs)) 0
 counted_at list b bs Less is rise = omega arith
@@ -43,7 +43,7 @@ counted list (b ∷ bs) rise =
     ∙ ap (λ n. b.1 * one_for list b.0 + n) (counted list bs (sorted_tail list_cmp b.0 (keys_of bs) rise))
     ∙ counted_at list b bs (list_cmp list b.0) refl rise
 
--- optional numbers of at least 1 are equal if they are equal when none counts as 0
+-- optional numbers of at least 1 are equal if they are equal when `None` counts as 0
 same_number : (o p : Option ℕ) → IfSome o (λ n. 1 ≤ n) → IfSome p (λ n. 1 ≤ n) → unwrap_or o 0 ≡ unwrap_or p 0 → o ≡ p
 same_number None None some others same = refl
 same_number None (Some m) some others same = absurd (omega (arith, others, same))
@@ -54,7 +54,7 @@ same_number (Some n) (Some m) some others same = ap (λ k. Some k) same
 some_number : (list : List ℕ) (bs : List Bundle) → AreBundles bs → IfSome (lookup (is_at (list_cmp list)) bs) (λ n. 1 ≤ n)
 some_number list bs all = All-lookup (λ n. 1 ≤ n) (is_at (list_cmp list)) bs (λ k d l. (All-from_recursion IsBundle bs all.each k d l).0)
 
--- the number found for a list, if there is one
+-- the number found for the given list, if any
 abbrev found : List Bundle → List ℕ → Option ℕ
 found bs list = lookup (is_at (list_cmp list)) bs
 

@@ -16,11 +16,11 @@ use Rattle.std.proofs.lemmas.Map.Keys.{sorted_tail}
 use Rattle.std.proofs.lemmas.Map.Lookups.{exact_bytes}
 use Rattle.count.specs.Bundles.{Bundle, list_cmp, papers_of, with_papers, IsBundle, AreBundles}
 
--- the number of papers with a list
+-- the number of papers with the given list
 abbrev pub number_of : List ℕ → List Bundle → ℕ
 number_of list bs = unwrap_or (lookup (is_at (list_cmp list)) bs) 0
 
--- the number of papers with one list is at most the number of all papers
+-- the number of papers with a given list is at most the total number of papers
 number_at : (b : Bundle) (bs : List Bundle) (found : Option ℕ) (here : Bool) → unwrap_or found 0 ≤ length (papers_of bs) →
     unwrap_or (cond here (Some b.1) found) 0 ≤ length (papers_of (b ∷ bs))
 number_at b bs found true behind = omega (arith, length-append (replicate b.1 b.0) (papers_of bs), length-replicate b.1 b.0)
@@ -75,7 +75,7 @@ above-with_papers : (x list : List ℕ) (n : ℕ) (bs : List Bundle) → list_cm
 above-with_papers x list n [] new all = (new, tt)
 above-with_papers x list n (b ∷ bs) new all = above_at x list n b bs (list_cmp list b.0) new all (above-with_papers x list n bs new all.1)
 
--- a list below another is below all lists above that
+-- a list below another is below all lists above the other one
 above_both : (x y : List ℕ) (zs : List (List ℕ)) → list_cmp x y ≡ Less → AllByRecursion (λ z. list_cmp y z ≡ Less) zs → AllByRecursion (λ z. list_cmp x z ≡ Less) zs
 above_both x y [] below all = tt
 above_both x y (z ∷ zs) below all = (nat_list_cmp_total.trans x y z below all.0, above_both x y zs below all.1)
@@ -93,18 +93,18 @@ unfolding IsStrictlySortedBy
 rise-with_papers list n [] rise = (tt, tt)
 rise-with_papers list n (b ∷ bs) rise = rise_at list n b bs (list_cmp list b.0) refl rise (rise-with_papers list n bs rise.1)
 
--- bundles with papers of a list added are bundles
+-- bundles remain bundles when papers with a given list are added
 pub bundles-with_papers : (list : List ℕ) (n : ℕ) (bs : List Bundle) → IsBundle (list, n) → AreBundles bs → AreBundles (with_papers bs list n)
 bundles-with_papers list n bs new all = record { rise = rise-with_papers list n bs all.rise; each = each-with_papers list n bs new all.each }
 
--- papers between others can be moved to the front
+-- papers in the middle can be moved to the front
 to_front : (xs ys zs : List (List ℕ)) → IsPermutation (xs ++ (ys ++ zs)) (ys ++ (xs ++ zs))
 to_front xs ys zs =
     subst (λ l. IsPermutation l (ys ++ (xs ++ zs))) (append_assoc xs ys zs)
     (subst (λ l. IsPermutation ((xs ++ ys) ++ zs) l) (append_assoc ys xs zs)
     (IsPermutation-append_left zs (xs ++ ys) (ys ++ xs) (IsPermutation-append_comm xs ys)))
 
--- the papers are the old and the new ones
+-- the papers are the old ones and the new ones
 papers_at : (list : List ℕ) (n : ℕ) (b : Bundle) (bs : List Bundle) (o : Ordering) → list_cmp list b.0 ≡ o →
     IsPermutation (replicate n list ++ papers_of bs) (papers_of (with_papers bs list n)) →
     IsPermutation (replicate n list ++ papers_of (b ∷ bs)) (papers_of (match_ordering o ((list, n) ∷ b ∷ bs) ((b.0, b.1 + n) ∷ bs) (b ∷ with_papers bs list n)))

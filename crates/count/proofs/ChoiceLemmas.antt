@@ -24,7 +24,7 @@ either_or true b x y h k o = ap (λ z. z || y) (h refl)
 either_or false b true y h k o = refl
 either_or false b false y h k o = k o
 
--- a value or 0 is at most the value
+-- either a value or 0 is at most the value
 pub within_value : (b : Bool) (v : ℕ) → cond b v 0 ≤ v
 within_value true v = omega arith
 within_value false v = omega arith

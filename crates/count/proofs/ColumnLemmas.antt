@@ -38,7 +38,7 @@ columns-take n xs set = record {
       subst IsColumn (sym here) (set.within k (omega (arith, size, at)));
 }
 
--- one more member that passes the test
+-- another member that passes the test
 pub columns-more : (p : ℕ → Bool) (xs chosen : List ℕ) (i : ℕ) → IsCandidateSet xs → chosen ≡ filter p (take i xs) → i < length xs → p (slice_index xs i) ≡ true →
     IsCandidateSet (chosen ++ slice_index xs i ∷ [])
 columns-more p xs chosen i set is within passes =
@@ -46,7 +46,7 @@ columns-more p xs chosen i set is within passes =
     filter_more p xs i 0 within ∙ ap (λ b. filter p (take i xs) ++ cond b (slice_index xs i ∷ []) []) passes in
     subst IsCandidateSet (more ∙ ap (λ l. l ++ slice_index xs i ∷ []) (sym is)) (columns-filter p (take (i + 1) xs) (columns-take (i + 1) xs set))
 
--- the first members of a set that pass a test, and one more that does, or doesn't
+-- the first members of a set that pass a test, and another that does, or doesn't
 pub chosen-yes : (p : ℕ → Bool) (xs chosen more : List ℕ) (i : ℕ) → IsCandidateSet xs → i < length xs → p (slice_index xs i) ≡ true → chosen ≡ filter p (take i xs) →
     (IsCandidateSet (chosen ++ slice_index xs i ∷ []) → more ≡ chosen ++ slice_index xs i ∷ []) → more ≡ filter p (take (i + 1) xs)
 chosen-yes p xs chosen more i set within passes so_far last =
@@ -57,7 +57,7 @@ pub chosen-no : (p : ℕ → Bool) (xs chosen : List ℕ) (i : ℕ) → i < leng
 chosen-no p xs chosen i within fails so_far =
     so_far ∙ sym (filter_more p xs i 0 within ∙ ap (λ b. filter p (take i xs) ++ cond b (slice_index xs i ∷ []) []) fails ∙ append-nil (filter p (take i xs)))
 
--- a list with one more element at the end, reversed
+-- a list with another element at the end, reversed
 pub reverse-newest : {X : Type 0} (xs before : List X) (newest : X) → xs ≡ before ++ newest ∷ [] → reverse xs ≡ newest ∷ reverse before
 reverse-newest xs before newest is = ap reverse is ∙ reverse-append before (newest ∷ [])
 

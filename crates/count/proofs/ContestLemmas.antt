@@ -1,4 +1,4 @@
--- The test of a contest, paper by paper.
+-- Testing a contest, paper by paper.
 use Rattle.std.proofs.Common.{◌≡◌, ℕ, suc, zero, ◌+◌, ◌<◌, ◌≤◌, List, [], ◌∷◌, ◌++◌, length, take, get_or, replicate, refl, sym, ◌∙◌, arith, subst, Bool, true}
 use Rattle.std.specs.List.{AllByRecursion}
 use Rattle.paper.specs.Columns.{IsCandidateSet}
@@ -6,7 +6,7 @@ use Rattle.votes.specs.Units.{max_seats, max_papers}
 use Rattle.count.specs.Bundles.{Bundle, IsBundle, papers_of}
 use Rattle.count.specs.Law.Contest.{AreForCandidates, contest_for, IsContest}
 
--- one more member, all members, and one of them
+-- a property of another member, of all members, and of one of them
 pub all-more : {X : Type 0} (P : X → Type 0) (xs : List X) (i : ℕ) (x : X) → i < length xs → x ≡ get_or xs i x → P x → AllByRecursion P (take i xs) → AllByRecursion P (take (i + 1) xs)
 all-more P [] i x within is here sofar = absurd (omega arith)
 all-more P (y ∷ ys) zero x within is here sofar = (subst P is here, tt)

@@ -5,7 +5,7 @@ use Rattle.std.proofs.lemmas.Bool.{eq-eqb}
 use Rattle.count.specs.Law.Contest.{In}
 use Rattle.count.proofs.ChoiceLemmas.{or_later}
 
--- tests that agree on the members select the same
+-- tests that agree on the members select the same ones
 pub filter-cong : (p q : ℕ → Bool) (xs : List ℕ) → ((c : ℕ) → In c xs → p c ≡ q c) → filter p xs ≡ filter q xs
 filter-cong p q [] h = refl
 filter-cong p q (x ∷ xs) h =

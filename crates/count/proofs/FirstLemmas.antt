@@ -10,7 +10,7 @@ pub first-known : (paper : List ℕ) → IsRanking paper → first_of paper ≤ 
 first-known [] h = omega arith
 first-known (x ∷ xs) h = h.1
 
--- one more ranking
+-- another ranking
 pub rankings-more : (papers : List (List ℕ)) (i : ℕ) (p : List ℕ) → i < length papers → p ≡ get_or papers i p → IsRanking p → AreRankings (take i papers) → AreRankings (take (i + 1) papers)
 rankings-more [] i p within is ranking sofar = absurd (omega arith)
 rankings-more (q ∷ qs) zero p within is ranking sofar = (subst IsRanking is ranking, tt)

@@ -1,4 +1,4 @@
--- Lemmas on the law of the count, on books, and on lists and numbers.
+-- Lemmas about the law of the count, on books, and on lists and numbers.
 pub mod Law
 pub mod ArrayLemmas
 pub mod BookLemmas

@@ -32,7 +32,7 @@ bundled-permutation papers = bundled-from [] papers
 pub bundled-length : (papers : List (List ℕ)) → length (papers_of (bundled papers)) ≡ length papers
 bundled-length papers = length_permutation papers (papers_of (bundled papers)) (bundled-permutation papers)
 
--- a property of each list of some bundles and of one more list holds for each list once that one is added
+-- a property of each bundle's list and of another list holds for each list once that other list is added
 lists_at : (P : List ℕ → Type 0) (list : List ℕ) (n : ℕ) (b : Bundle) (bs : List Bundle) (o : Ordering) → P list → AllByRecursion (λ (c : Bundle). P c.0) (b ∷ bs) →
     AllByRecursion (λ (c : Bundle). P c.0) (with_papers bs list n) → AllByRecursion (λ (c : Bundle). P c.0) (match_ordering o ((list, n) ∷ b ∷ bs) ((b.0, b.1 + n) ∷ bs) (b ∷ with_papers bs list n))
 lists_at P list n b bs Less one all behind = (one, all)
@@ -49,7 +49,7 @@ pub lists-from : (P : List ℕ → Type 0) (bs : List Bundle) (papers : List (Li
 lists-from P bs [] all some = all
 lists-from P bs (p ∷ ps) all some = lists-from P (with_papers bs p 1) ps (lists-with_papers P p 1 bs some.0 all) some.1
 
--- a contest on papers is one on their bundles' papers
+-- a contest with papers is also a contest on the papers of their bundles
 pub contest-bundled : (candidates : List ℕ) (seats : ℕ) (papers : List (List ℕ)) → IsContest (contest_for candidates seats papers) →
     IsContest (contest_for candidates seats (papers_of (bundled papers)))
 contest-bundled candidates seats papers fair = record {
@@ -62,13 +62,13 @@ contest-bundled candidates seats papers fair = record {
   quota_is = refl;
 }
 
--- the contest on papers is the one on their bundles' papers, in another order
+-- a contest with papers is the contest with the papers of their bundles, in another order
 pub contest-reordered : (candidates : List ℕ) (seats : ℕ) (papers : List (List ℕ)) →
     reordered (contest_for candidates seats papers) (papers_of (bundled papers)) ≡ contest_for candidates seats (papers_of (bundled papers))
 contest-reordered candidates seats papers =
     ap (λ n. let it : Contest = record { candidates = candidates; seats = seats; quota = quota_of n seats; papers = papers_of (bundled papers) } in it) (sym (bundled-length papers))
 
--- so the stages of its count are the same
+-- so its count has the same stages
 pub stages-bundled : (candidates : List ℕ) (seats : ℕ) (papers : List (List ℕ)) (lots : List (ℕ × ℕ)) (k : ℕ) →
     stages_to (contest_for candidates seats (papers_of (bundled papers))) lots k ≡ stages_to (contest_for candidates seats papers) lots k
 stages-bundled candidates seats papers lots k =

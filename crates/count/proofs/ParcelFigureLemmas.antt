@@ -29,7 +29,7 @@ use Rattle.count.proofs.Law.QuotaLemmas.{values-conserved, values-conserved-next
 use Rattle.count.proofs.ChoiceLemmas.{eqb_swap, or_false}
 use Rattle.count.proofs.Law.CandidateSums.{one-within}
 
--- whichever holder a paper has, an action that passes on the papers of h leaves h none of the earlier ones
+-- whichever holder a paper has, an action that passes on the papers of h leaves h none of its earlier papers
 kept_value : (action : Action) (k h v : ℕ) (b t : Bool) → passes_on action h ≡ b → eqb k h ≡ t → let zero_ : ℕ = 0 in cond (passes_on action k) zero_ (cond t v 0) ≡ cond b zero_ (cond t v 0)
 kept_value action k h v b true e same = ap (λ c. cond c 0 v) (ap (passes_on action) (eqb-true k h same) ∙ e)
 kept_value action k h v b false e other = nothing (passes_on action k) b
@@ -172,7 +172,7 @@ map-range f g (suc n) few h =
 pub map-numbers : (f g : ℕ → ℕ) → ((c : ℕ) → IsColumn c → f c ≡ g c) → map f numbers ≡ map g numbers
 map-numbers f g h = map-range f g 30 (omega arith) h
 
--- what a stage records after an action is what the definitions state
+-- what a stage records after an action is what the definitions require
 pub records-adds : (terms : Terms) (papers : List (List ℕ)) (before after : History) (action : Action) (holdings new : List Holding) → IsBook (contest_of terms papers) before holdings →
     IsDue (contest_of terms papers) before action → IsMovedBy (contest_of terms papers) before action holdings new → Records terms before action new after
     → Adds (contest_of terms papers) before action after
@@ -210,7 +210,7 @@ votes_small_choice : (b : Bool) (q v n : ℕ) → q ≤ n → v ≤ n → cond b
 votes_small_choice true q v n h k = h
 votes_small_choice false q v n h k = k
 
--- no figure of a right history is above one vote for each of the maximum number of papers
+-- no figure of a correct history exceeds one vote for each of the maximum number of papers
 pub newest_small : (contest : Contest) (handed : History → Stage → Option ℕ) (before : History) (new : List Holding) → IsContest contest → IsRightBy contest handed before → worth new ≤ max_units →
     AreSmall before new
 newest_small contest handed [] new fair right small = record { votes_small = λ c some few. omega arith; non_transferable_small = omega arith; lost_small = omega arith; moved_small = small }
@@ -229,7 +229,7 @@ newest_small contest handed (s ∷ before) new fair right small =
       moved_small = small;
     }
 
--- nor is the worth of what an action moved
+-- the worth of what an action moved is small too
 pub moved-small : (contest : Contest) (before : History) (action : Action) (holdings new : List Holding) → IsBook contest before holdings → IsDue contest before action →
     IsMovedBy contest before action holdings new → AreSmall before new
 moved-small contest before action holdings new book due is_moved =
@@ -239,7 +239,7 @@ moved-small contest before action holdings new book due is_moved =
     let parts : all_values contest (bare ∷ before) ≡ worth new + total (kept_by (λ k rest v. v) action) holdings = is_moved (λ k rest v. v) bare refl in
     newest_small contest handed before new book.fair book.right (omega (arith, all, parts, book.fair.few_papers))
 
--- a surplus is that of a candidate
+-- a surplus belongs to a candidate
 pub surplus-column : (contest : Contest) (stages : History) (holdings : List Holding) (action : Action) → IsBook contest stages holdings → IsDue contest stages action → (c : ℕ) →
     action ≡ Surplus c → IsColumn c
 surplus-column contest stages holdings action book due c is = (surplus-lawful contest stages c book.fair book.right (subst (IsDue contest stages) is due)).column

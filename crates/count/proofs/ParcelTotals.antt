@@ -18,14 +18,14 @@ on_parcel f parcel = sum_by (λ (r : Bor (List ℕ)). f r.now parcel.value) parc
 abbrev on_holding : (ℕ → List ℕ → ℕ → ℕ) → Holding → ℕ
 on_holding f holding = total_of (f holding.holder) holding.parcels.items
 
--- one more paper, in a new parcel
+-- another paper, in a new parcel
 pub total_of-start : (f : List ℕ → ℕ → ℕ) (parcels more : List Parcel) (parcel : Parcel) (rest : Bor (List ℕ)) →
     more ≡ parcels ++ parcel ∷ [] → parcel.papers.items ≡ rest ∷ [] → total_of f more ≡ total_of f parcels + f rest.now parcel.value
 total_of-start f parcels more parcel rest is one =
     let own : on_parcel f parcel ≡ f rest.now parcel.value = ap (sum_by (λ (r : Bor (List ℕ)). f r.now parcel.value)) one ∙ omega arith in
     ap (total_of f) is ∙ sum_by_push (on_parcel f) parcels parcel ∙ ap (λ n. total_of f parcels + n) own
 
--- one more paper in a parcel
+-- another paper in a parcel
 pub total_of-set : (f : List ℕ → ℕ → ℕ) (parcels : List Parcel) (i : ℕ) (old new : Parcel) (rest : Bor (List ℕ)) →
     i < length parcels → old ≡ get_or parcels i old → new.value ≡ old.value → new.papers.items ≡ old.papers.items ++ rest ∷ [] →
     total_of f (set parcels i new) ≡ total_of f parcels + f rest.now old.value
@@ -47,14 +47,14 @@ total-set f holdings i k old new within is same more =
     let here : on_holding f (get_or holdings i old) ≡ on_holding f old = ap (on_holding f) (sym is) in
     omega (arith, sum_by-set (on_holding f) holdings i new old within, grown, here)
 
--- one more holding, with no papers
+-- another holding, with no papers
 pub total-empty : (f : ℕ → List ℕ → ℕ → ℕ) (holdings more : List Holding) (holding : Holding) →
     more ≡ holdings ++ holding ∷ [] → holding.parcels.items ≡ [] → total f holdings ≡ 0 → total f more ≡ 0
 total-empty f holdings more holding is none empty =
     let own : on_holding f holding ≡ 0 = ap (total_of (f holding.holder)) none in
     ap (total f) is ∙ (sum_by_push (on_holding f) holdings holding ∙ omega (arith, own, empty))
 
--- one more number
+-- another number
 pub numbered-push : (n : ℕ) (holdings : List Holding) (holding : Holding) → AreNumbered n holdings → holding.holder ≡ n + length holdings → AreNumbered n (holdings ++ holding ∷ [])
 numbered-push n [] holding h is = (omega (arith, is), tt)
 numbered-push n (x ∷ xs) holding h is = (h.0, numbered-push (n + 1) xs holding h.1 (omega (arith, is)))
@@ -70,26 +70,26 @@ numbered-set n [] i old new h is same = tt
 numbered-set n (x ∷ xs) zero old new h is same = (same ∙ (ap (λ (y : Holding). y.holder) is ∙ h.0), h.1)
 numbered-set n (x ∷ xs) (suc i) old new h is same = (h.0, numbered-set (n + 1) xs i old new h.1 is same)
 
--- the parcels so far, and one more
+-- the parcels so far, and another
 pub total_of-more : (f : List ℕ → ℕ → ℕ) (parcels : List Parcel) (i : ℕ) (parcel : Parcel) → i < length parcels → parcel ≡ get_or parcels i parcel →
     total_of f (take (i + 1) parcels) ≡ total_of f (take i parcels) + on_parcel f parcel
 total_of-more f parcels i parcel within is =
     sum_by_more (on_parcel f) parcels i parcel within ∙ ap (λ n. total_of f (take i parcels) + n) (ap (on_parcel f) (sym is))
 
--- the holdings so far, and one more
+-- the holdings so far, and another
 pub total-more : (f : ℕ → List ℕ → ℕ → ℕ) (holdings : List Holding) (i : ℕ) (holding : Holding) → i < length holdings → holding ≡ get_or holdings i holding →
     total f (take (i + 1) holdings) ≡ total f (take i holdings) + on_holding f holding
 total-more f holdings i holding within is =
     sum_by_more (on_holding f) holdings i holding within ∙ ap (λ n. total f (take i holdings) + n) (ap (on_holding f) (sym is))
 
--- equal functions have the same sum over some parcels
+-- equal functions have the same sum over the given parcels
 pub total_of-same : (f g : List ℕ → ℕ → ℕ) (parcels : List Parcel) → ((rest : List ℕ) (v : ℕ) → f rest v ≡ g rest v) → total_of f parcels ≡ total_of g parcels
 total_of-same f g parcels h = sum_by-same _ _ parcels (λ (p : Parcel). sum_by-same _ _ p.papers.items (λ (r : Bor (List ℕ)). h r.now p.value))
 
 pub total_of-none : (f : List ℕ → ℕ → ℕ) (parcels : List Parcel) → ((rest : List ℕ) (v : ℕ) → f rest v ≡ 0) → total_of f parcels ≡ 0
 total_of-none f parcels h = sum_by-none _ parcels (λ (p : Parcel). sum_by-none _ p.papers.items (λ (r : Bor (List ℕ)). h r.now p.value))
 
--- one more holding, of the candidate whose papers are passed on, or of another
+-- another holding, either that of the candidate whose papers are passed on or someone else's
 pub passed-more : (f : ℕ → List ℕ → ℕ → ℕ) (c : ℕ) (continues : ℕ → Bool) (rule : TransferRule) (holdings : List Holding) (i : ℕ) (holding : Holding) →
     i < length holdings → holding ≡ get_or holdings i holding → holding.holder ≡ c →
     total_passed f c continues rule (take (i + 1) holdings) ≡ total_passed f c continues rule (take i holdings) + total_of (at_passed f continues rule) holding.parcels.items

@@ -41,7 +41,7 @@ moved_small contest before (Surplus c) p at small =
 moved_small contest before (Exclude c) p at small = passed_small (eqb at.holder c) (next_available contest before c p) at.value at small small
 moved_small contest before (ExcludeLast c) p at small = small
 
--- no paper's value is above one vote
+-- no paper's value exceeds one vote
 value-small : (contest : Contest) (stages : History) (p : List ℕ) → (place contest stages p).value ≤ one_vote
 value-small contest [] p = omega arith
 value-small contest (s ∷ before) p = moved_small contest before s.action p (place contest before p) (value-small contest before p)
@@ -125,7 +125,7 @@ exclude-places contest before c continues places bundles same are =
     ∙ ap (λ (l : List Placed). passed_places (is_continuing contest before) AsReceived c l bundles) are
     ∙ passed-all contest before c AsReceived (Exclude c) bundles (λ p at. refl)
 
--- if no bundle remains, no place does
+-- if no bundle remains, no place remains
 pub passed-none : (continues : ℕ → Bool) (rule : TransferRule) (c : ℕ) (places : List Placed) → passed_places continues rule c places [] ≡ []
 passed-none continues rule c [] = refl
 passed-none continues rule c (at ∷ places) = refl

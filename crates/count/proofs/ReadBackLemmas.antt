@@ -1,4 +1,4 @@
--- The figures of a right stage determine the stage.
+-- The figures of a correct stage determine the stage.
 use Rattle.std.proofs.Common.{◌≡◌, ℕ, ◌+◌, ◌<◌, ◌≤◌, ◌||◌, ◌⊎◌, inl, inr, Bool, true, false, not, cond, eqb, nat_eq, List, [], ◌∷◌, ◌++◌, length, map, take, drop, reverse, Option, Some}
 use Rattle.std.proofs.Common.{None, refl, sym, ap, ◌∙◌, arith, subst, append-nil, append_assoc, length-append}
 use Rattle.std.proofs.Math.Seq.{take-append_seam, drop-append_seam}
@@ -31,7 +31,7 @@ standing_elected true gone = refl
 standing_elected false true = refl
 standing_elected false false = refl
 
--- a mark shows who is elected, for any action
+-- for any action, a mark shows who is elected
 elected_by : (a : Action) (c : ℕ) (named gone : Bool) → (transfers a c ≡ true → named ≡ true) → (excludes a c ≡ true → named ≡ false) →
     is_elected_mark (mark_by a c (cond named 1 (cond gone 2 0))) ≡ named
 elected_by First c named gone on out = standing_elected named gone
@@ -169,12 +169,12 @@ stage-read contest handed s before elected now made fair right known read =
 
 -- ---- all stages
 
--- the figures of some stages in order, which follow other stages
+-- the figures of the given stages in order, after the earlier ones
 pub figures_from : List ℕ → History → List Stage → List Figure
 figures_from candidates before [] = []
 figures_from candidates before (s ∷ later) = figures_at candidates (s ∷ before) ++ figures_from candidates (s ∷ before) later
 
--- one more stage at the end
+-- another stage at the end
 from-more : (candidates : List ℕ) (before : History) (xs : List Stage) (s : Stage) →
     figures_from candidates before (xs ++ s ∷ []) ≡ figures_from candidates before xs ++ figures_at candidates (s ∷ (reverse xs ++ before))
 unfolding figures_from
@@ -217,7 +217,7 @@ none-read contest history figures stages elected fair are none nobody = record {
   elected_is = nobody ∙ sym (none-first contest contest.candidates fair) ∙ ap (λ (l : List Stage). elected_after contest (reverse l)) (sym none);
 }
 
--- the first stages of a right history are right
+-- the first stages of a correct history are correct
 right-first : (contest : Contest) (handed : History → Stage → Option ℕ) (newer before : History) → IsRightBy contest handed (newer ++ before) → IsRightBy contest handed before
 right-first contest handed [] before right = right
 right-first contest handed (s ∷ newer) before right = right-first contest handed newer before right.0
@@ -235,7 +235,7 @@ length-stage : (candidates : List ℕ) (s : Stage) (before : History) → length
 length-stage candidates s before =
     omega (arith, length-append (map (figure_of s (s ∷ before)) candidates) (record { candidate = fractions; units = s.lost; mark = 0 } ∷ []), length-map candidates (figure_of s (s ∷ before)))
 
--- one more stage
+-- another stage
 read_stage : (contest : Contest) (handed : History → Stage → Option ℕ) (history : History) (stages later : List Stage) (rest : List Figure) (more : List ℕ) (grown : List Stage) (n : ℕ) →
     IsRightBy contest handed history → n ≡ length contest.candidates + 2 → n ≤ length rest →
     stages ++ later ≡ reverse history → rest ≡ figures_from contest.candidates (reverse stages) later →

@@ -23,7 +23,7 @@ or_some : (b : Bool) → (b || true) ≡ true
 or_some true = refl
 or_some false = refl
 
--- the votes of a number, given the first candidates, and given one more
+-- the votes for a number, given the first candidates, and given another one
 units_own : (f : ℕ → Figure) (xs : List ℕ) (i n : ℕ) → i < length xs → n ≡ slice_index xs i → units_shown f (take (i + 1) xs) n ≡ (f n).units
 units_own f xs i n within same =
     ap (λ b. cond b (f n).units 0) (list_any_more (nat_eq n) xs i 0 within ∙ ap (λ b. list_any (nat_eq n) (take i xs) || b) (eq-eqb n (slice_index xs i) same)
@@ -37,7 +37,7 @@ units_other f xs i n within other =
 at_place : (f : ℕ → Figure) (xs : List ℕ) (k : ℕ) → k < 30 → get_or (votes_shown f xs) k 0 ≡ units_shown f xs (k + 1)
 at_place f xs k small = get_or-map-range_with_len (units_shown f xs) 1 30 k (k + 1) 0 small (omega arith)
 
--- the votes, given the first candidates, and given one more
+-- the votes, given the first candidates, and given another one
 pub votes-more : (f : ℕ → Figure) (xs votes : List ℕ) (i j v : ℕ) → i < length xs → j + 1 ≡ slice_index xs i → j < 30 → v ≡ (f (slice_index xs i)).units →
     votes ≡ votes_shown f (take i xs) → set votes j v ≡ votes_shown f (take (i + 1) xs)
 votes-more f xs votes i j v within at column own so_far =
@@ -79,7 +79,7 @@ action-some f xs i mark action within is some = action_at f xs i mark within is 
 pub figure-at : (f : ℕ → Figure) (xs : List ℕ) (figures : List Figure) (i : ℕ) (d : Figure) → figures ≡ map f xs → i < length xs → get_or figures i d ≡ f (slice_index xs i)
 figure-at f xs figures i d are within = ap (λ (l : List Figure). get_or l i d) are ∙ get_or-map f xs i 0 d within
 
--- the figures of the candidates are between a stage's first and last
+-- the figures of the candidates are between the first and the last figure of a stage
 pub between : (f : ℕ → Figure) (xs : List ℕ) (first last : Figure) (figures : List Figure) (n : ℕ) → figures ≡ first ∷ (map f xs ++ last ∷ []) → n ≡ length xs →
     take (n + 1 - 1) (drop 1 figures) ≡ map f xs
 between f xs first last figures n are size =
@@ -104,7 +104,7 @@ stage-made s a v e n l of votes elected none lost =
     ∙ ap (λ (x : ℕ). let t : Stage = record { action = s.action; votes = s.votes; elected = s.elected; non_transferable = x; lost = l } in t) none
     ∙ ap (λ (x : ℕ). let t : Stage = record { action = s.action; votes = s.votes; elected = s.elected; non_transferable = s.non_transferable; lost = x } in t) lost
 
--- the first candidates that are marked as elected, and one more that is, or isn't
+-- the first candidates that are marked as elected, and another that is, or isn't
 pub elected-yes : (f : ℕ → Figure) (xs chosen more : List ℕ) (i mark : ℕ) → IsCandidateSet xs → i < length xs → mark ≡ (f (slice_index xs i)).mark → is_elected_mark mark ≡ true →
     chosen ≡ elected_shown f (take i xs) →
     (IsCandidateSet (chosen ++ slice_index xs i ∷ []) → more ≡ chosen ++ slice_index xs i ∷ []) → more ≡ elected_shown f (take (i + 1) xs)

@@ -53,7 +53,7 @@ rest_again_at (y ∷ before) xs h = at_other y (first_of xs) _ _ (before_differs
 pub rest_again : (paper xs : List ℕ) → IsRanking paper → IsSuffix xs paper → from_first (λ d. d == first_of xs) paper ≡ xs
 rest_again paper xs h s = ap (from_first (λ d. d == first_of xs)) s.is ∙ rest_again_at s.before xs (subst IsRanking s.is h)
 
--- a paper that is passed on has the preferences that remain
+-- a paper that is passed on has the remaining preferences
 pub rest_passed : (continues : ℕ → Bool) (paper : List ℕ) (test : ℕ → Bool) → IsRanking paper →
     let left : List ℕ = passed_to continues (from_first test paper) in from_first (λ d. d == first_of left) paper ≡ left
 rest_passed continues paper test h =

@@ -27,7 +27,7 @@ use Rattle.count.proofs.OrderLemmas.{bundled-length, bundled-permutation, contes
 use Rattle.count.proofs.Law.CountLemmas.{next_reordered}
 use Rattle.count.proofs.Law.RightLemmas.{is_told, same_place, right_reordered}
 
--- the contest on the papers of the bundles
+-- the contest with the papers of the bundles
 on_bundles : Contest → List Bundle → Contest
 on_bundles contest bundles = reordered contest (papers_of bundles)
 
@@ -156,7 +156,7 @@ kept-first contest kept fair candidates_are seats_are bundles_are places_are sta
       stages_are = stages_are;
     }
 
--- the outcome of the next action on a stored count is what comes next in its contest
+-- the outcome of the next action on a stored count is the next step of its contest
 pub kept-next : (contest : Contest) (history : History) (lots : List (ℕ × ℕ)) (terms : Terms) (bundles : List Bundle) (places new_places : List Placed)
     (stages new_stages : List Stage) (action : Action) →
     IsInRange terms bundles places stages → IsStoredCountOf contest history (kept_of terms bundles places stages) →

@@ -22,7 +22,7 @@ use Rattle.count.proofs.SumLemmas.{sum_by-same, sum_by-add, sum_by-none, sum-ran
 use Rattle.count.proofs.RestLemmas.{rest_passed, rest_again, suffix-self}
 use Rattle.count.proofs.ChoiceLemmas.{eqb_swap}
 
--- a function after the papers of c are passed on, while the others stay
+-- a function applied after the papers of c are passed on, while the others stay
 abbrev after_passing : (ℕ → List ℕ → ℕ → ℕ) → ℕ → (ℕ → Bool) → TransferRule → ℕ → List ℕ → ℕ → ℕ
 after_passing f c cont rule h rest v = cond (eqb h c) (at_passed f cont rule rest v) (f h rest v)
 

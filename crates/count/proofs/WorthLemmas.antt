@@ -13,13 +13,13 @@ use Rattle.count.proofs.ChoiceLemmas.{within_value}
 parcel_worth : Parcel → ℕ
 parcel_worth parcel = sum_by (λ (r : Bor (List ℕ)). parcel.value) parcel.papers.items
 
--- the parcels so far, and one more
+-- the parcels so far, and another
 pub parcels-more : (parcels : List Parcel) (i : ℕ) (parcel : Parcel) → i < length parcels → parcel ≡ get_or parcels i parcel →
     total_of (λ rest v. v) (take (i + 1) parcels) ≡ total_of (λ rest v. v) (take i parcels) + parcel.value * length parcel.papers.items
 parcels-more parcels i parcel within is =
     omega (arith, total_of-more (λ rest v. v) parcels i parcel within is, sum_by-constant parcel.value parcel.papers.items)
 
--- they are at most the worth of all
+-- their worth is at most that of all parcels
 pub parcels-within : (parcels : List Parcel) (i : ℕ) (parcel : Parcel) → i < length parcels → parcel ≡ get_or parcels i parcel →
     total_of (λ rest v. v) (take i parcels) + parcel.value * length parcel.papers.items ≤ total_of (λ rest v. v) parcels
 unfolding parcel_worth
@@ -27,7 +27,7 @@ parcels-within parcels i parcel within is =
     let here : parcel_worth (get_or parcels i parcel) ≡ parcel.value * length parcel.papers.items = ap parcel_worth (sym is) ∙ sum_by-constant parcel.value parcel.papers.items in
     omega (arith, sum_by_more_le parcel_worth parcels i parcel within, here)
 
--- one more holding of the holder, or of another
+-- another holding, of the given holder or of someone else
 pub worth_to-more : (h : ℕ) (holdings : List Holding) (i : ℕ) (holding : Holding) → i < length holdings → holding ≡ get_or holdings i holding → holding.holder ≡ h →
     worth_to h (take (i + 1) holdings) ≡ worth_to h (take i holdings) + total_of (λ rest v. v) holding.parcels.items
 worth_to-more h holdings i holding within is same =
@@ -52,7 +52,7 @@ holding_worth holding = total_of (λ rest v. v) holding.parcels.items
 holding_worth_to : ℕ → Holding → ℕ
 holding_worth_to h holding = total_of (λ rest v. cond (eqb holding.holder h) v 0) holding.parcels.items
 
--- the worth of the holder's papers so far and one more holding is at most that of all
+-- the worth of the holder's papers so far and of another holding is at most that of all
 pub worth_to-within-more : (h : ℕ) (holdings : List Holding) (i : ℕ) (holding : Holding) → i < length holdings → holding ≡ get_or holdings i holding →
     worth_to h (take i holdings) + total_of (λ rest v. v) holding.parcels.items ≤ worth holdings
 unfolding holding_worth holding_worth_to

@@ -7,7 +7,7 @@ use Rattle.count.specs.Law.Places.{Place}
 use Rattle.count.specs.declared.placed.Placed.{Placed}
 use Rattle.count.specs.declared.terms.Terms.{Terms}
 
--- the contest with these terms and papers
+-- the contest with the given terms and papers
 abbrev pub contest_of : Terms → List (List ℕ) → Contest
 contest_of terms papers = record { candidates = terms.candidates; seats = terms.seats; quota = terms.quota; papers = papers }
 
@@ -27,6 +27,6 @@ pub record BundledBook : Type 0 where
   pub history : History
   pub bundles : List Bundle
 
--- a place, as a book by bundles accepts and returns it
+-- a place, as a bundle book accepts and returns it
 abbrev pub placed : Place → Placed
 placed at = record { holder = at.holder; value = at.value }

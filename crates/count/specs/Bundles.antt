@@ -24,7 +24,7 @@ abbrev pub with_papers : List Bundle → List ℕ → ℕ → List Bundle
 with_papers [] list n = (list, n) ∷ []
 with_papers (b ∷ bs) list n = match_ordering (list_cmp list b.0) ((list, n) ∷ b ∷ bs) ((b.0, b.1 + n) ∷ bs) (b ∷ with_papers bs list n)
 
--- the bundles of some papers
+-- the bundles of the given papers
 abbrev pub bundled : List (List ℕ) → List Bundle
 bundled papers = fold (λ bs paper. with_papers bs paper 1) [] papers
 

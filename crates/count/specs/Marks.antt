@@ -49,7 +49,7 @@ excluded_last = 5
 abbrev pub standing_mark : History → ℕ → ℕ
 standing_mark stages c = if is_named stages c then elected else if is_excluded stages c then excluded else continuing
 
--- the mark of c at the stage of an action: that of the action if it is on c, otherwise the other mark
+-- the mark of c at the stage of the given action: that of the action if it acts on c, otherwise the other mark
 abbrev pub mark_by : Action → ℕ → ℕ → ℕ
 mark_by First c other = other
 mark_by (Surplus d) c other = if d == c then surplus_now else other

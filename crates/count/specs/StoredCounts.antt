@@ -16,11 +16,11 @@ pub record StoredCountEntry : Type 0 where
   pub places : List Placed
   pub stages : List Stage
 
--- the places of the bundles after some stages
+-- the places of the bundles after the given stages
 abbrev pub places_after : Contest → History → List Bundle → List Placed
 places_after contest stages bundles = map (λ (b : Bundle). placed (place contest stages b.0)) bundles
 
--- the stored data is that of the count of a contest after these stages, which are right for some lots
+-- the stored data is that of the count of a contest after the given stages, which are correct for some lots
 pub record IsStoredCountOf (contest : Contest) (stages : History) (kept : StoredCountEntry) : Type 0 where
   pub fair : IsContest contest
   pub right : IsRightForSome contest stages

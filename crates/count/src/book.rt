@@ -37,8 +37,8 @@ pub trait CountBook {
     /// The stages so far, newest first.
     ghost history: { Self → History };
 
-    /// Returns the stages so far, in order. They are right for the contest and for the lots that their own actions name. The
-    /// figures of each stage add up, and only candidates have votes. There is at most one stage per candidate, plus one.
+    /// Returns the stages so far, in order. They are correct for the contest and for the lots that their own actions name.
+    /// The figures of each stage add up, and only candidates have votes. There is at most one stage per candidate, plus one.
     fn stages(&self) -> &[Stage]
         ensures is { reverse result.now ≡ history self.now }
         ensures right { IsRightByItself (contest self.now) (history self.now) }

@@ -17,8 +17,8 @@ use crate::stages::{Action, Stage};
 use crate::terms::Terms;
 use std::alloc::{AllocError, Global};
 
-/// Returns the places of the bundles and the stages after an action; the old ones are unchanged. If the action isn't due, the
-/// result is not part of any count. `AllocError` if an allocation fails.
+/// Returns the places of the bundles and the stages after the given action; the old ones are unchanged. If the action isn't
+/// due, the result is not part of any count. `AllocError` if an allocation fails.
 pub fn acted_on_bundles(
     alloc: Global,
     terms: &Terms,

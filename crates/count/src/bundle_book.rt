@@ -1,4 +1,4 @@
-//! A count by bundles.
+//! A count in bundles.
 
 ghost use Rattle.std.specs.Prelude.{◌≡◌, ◌<◌, ℕ, List, [], map, reverse, length, slice_index_or, IfOk};
 ghost use Rattle.count.specs.Books.{placed};
@@ -23,7 +23,7 @@ use std::alloc::{AllocError, Global};
 use std::marker::Model;
 
 /// A count that stores equal papers as one bundle, with one holder and one value. This is sound because the rules depend on nothing
-/// in a paper but its preferences. The cost of a stage therefore depends on the number of bundles, not of papers.
+/// in a paper but its preferences. The cost of a stage therefore depends on the number of bundles, not on the number of papers.
 #[derive(Drop)]
 pub struct BundleBook<'a> {
     alloc: Global,
@@ -45,8 +45,9 @@ impl<'a> Model for BundleBook<'a> {
     ghost invariant = { λ a. IsBundled (contest_on a.terms a.bundles.now) (reverse a.stages.items) a.bundles.now a.places.items };
 }
 
-/// States the law of counting by bundles, for its callers. The bundles of some papers represent exactly these papers, in another
-/// order. If a contest can be held on the papers, it can be held on those of the bundles, with the same stages for any lots.
+/// States the law of counting in bundles, for its callers. The bundles of given papers represent exactly those papers, in
+/// another order. If a contest can be held with the papers, it can be held with those of the bundles, with the same stages for any
+/// lots.
 #[tactic(auto, using(crate::proofs::OrderLemmas::bundled_alike))]
 pub fn bundles_count_alike()
     ensures papers { (papers : List (List ℕ)) → IsPermutation papers (papers_of (bundled papers)) }
@@ -82,8 +83,8 @@ impl<'a> BundleBook<'a> {
 
     /// Resumes a count from its stages so far and the places of its bundles after them.
     ///
-    /// The requirements of `new` on candidates, seats and preferences apply here too. The stages must be right for these papers and
-    /// some lots. The places must be those of the bundles after these stages, in the order of the bundles. `AllocError` if an
+    /// The requirements of `new` on candidates, seats and preferences apply here too. The stages must be correct for these papers
+    /// and some lots. The places must be those of the bundles after these stages, in the order of the bundles. `AllocError` if an
     /// allocation fails.
     pub fn resume(
         alloc: Global,
@@ -110,8 +111,8 @@ impl<'a> BundleBook<'a> {
         })
     }
 
-    /// Returns the places of the bundles after the stages so far, in the order of the bundles. Another book can resume from these and
-    /// the stages. The bundles are still those of the papers.
+    /// Returns the places of the bundles after the stages so far, in the order of the bundles. Another book can resume from these
+    /// places and the stages. The bundles are still those of the papers.
     pub fn places(&self) -> &[Placed]
         ensures places { result.now ≡ map (λ b. placed (place_of self.now.contest self.now.history b.0)) self.now.bundles }
         ensures bundles { (bundles : List Bundle) → AreBundles bundles → IsPermutation (papers_of bundles) self.now.contest.papers → bundles ≡ self.now.bundles }
@@ -119,7 +120,7 @@ impl<'a> BundleBook<'a> {
         &self.places
     }
 
-    /// Returns the place of a bundle after the stages so far.
+    /// Returns the place of bundle `i` after the stages so far.
     pub fn place(&self, i: usize) -> Placed
         requires { i < length self.now.bundles }
         ensures { result ≡ placed (place_of self.now.contest self.now.history (slice_index_or self.now.bundles i ([], 0)).0) }

@@ -36,7 +36,7 @@ fn worth(bundles: &Bundles, places: &[Placed]) -> u64
     sum
 }
 
-/// Adds the worth of papers at one place to the sum of their holder.
+/// Adds the worth of papers at one place to their holder's sum.
 fn add_worth(sums: &mut [u64; HOLDERS], at: &Placed, papers: u32)
     requires holder { at.now.holder ≤ max_candidates }
     requires fits { slice_index sums.old at.now.holder + papers * at.now.value ≤ max_units }
@@ -64,7 +64,8 @@ fn sums(bundles: &Bundles, places: &[Placed]) -> [u64; HOLDERS]
     sums
 }
 
-/// Returns the votes of a candidate, given the worth of each holder's papers: exactly the quota once the surplus is transferred.
+/// Returns the votes of a candidate, given the worth of each holder's papers: exactly the quota once the surplus is
+/// transferred.
 fn votes_from(
     quota: Votes,
     stages: &[Stage],
@@ -81,7 +82,7 @@ fn votes_from(
     Votes::from_units(sums[usize::from(c)])
 }
 
-/// Returns the votes of all numbers, given the worth of each holder's papers.
+/// Returns the votes for all candidate numbers, given the worth of each holder's papers.
 fn all_votes_from(
     quota: Votes,
     stages: &[Stage],
@@ -97,7 +98,7 @@ fn all_votes_from(
     votes
 }
 
-/// Returns the loss by fractions after an action that moved bundles to new places; a surplus leaves the quota with its candidate.
+/// Returns the loss by fractions after the action, which moved bundles to new places; a surplus leaves the quota with its candidate.
 fn lost_from(
     quota: Votes,
     bundles: &Bundles,
@@ -121,7 +122,7 @@ fn lost_from(
     }
 }
 
-/// Returns the stage of an action that moved bundles to new places: its figures, but not its newly elected candidates.
+/// Returns the stage of the action, which moved bundles to new places: its figures, but not its newly elected candidates.
 pub fn figured(
     terms: &Terms,
     bundles: &Bundles,

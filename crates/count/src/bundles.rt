@@ -55,8 +55,8 @@ impl Bundles {
         self.add_papers(list, 1)
     }
 
-    /// Adds one or more equal papers; the total may be at most `MAX_PAPERS`. Allocates only for a new list; if that fails, nothing is
-    /// changed.
+    /// Adds one or more equal papers; the total must not exceed `MAX_PAPERS`. Allocates only for a new list; if that fails, nothing
+    /// is changed.
     pub fn add_papers(&mut self, list: Prefs, papers: u32) -> Result<(), AllocError>
         requires some { 1 ≤ papers }
         requires few { length (papers_of self.old) + papers ≤ max_papers }
@@ -87,8 +87,8 @@ impl Bundles {
         self.lists.len()
     }
 
-    /// Returns the bundle at a position in the order of the lists: its list and its number of papers. Walks from the first bundle;
-    /// to visit all of them, use `iter`.
+    /// Returns the bundle at the given position in the order of the lists: its list and its number of papers. Walks from the first
+    /// bundle; to visit all of them, use `iter`.
     pub fn get(&self, i: usize) -> (&Prefs, u32)
         requires { i < length self.now }
         ensures { slice_get self.now i ≡ Some (result.0.now, result.1) }
@@ -108,7 +108,7 @@ impl Bundles {
     }
 }
 
-/// Adds equal papers to a tree. `AllocError` if an allocation fails; the tree is then unchanged.
+/// Adds equal papers to the tree. `AllocError` if an allocation fails; the tree is then unchanged.
 fn add_to(lists: &mut BTreeMap<Prefs, u32>, list: Prefs, papers: u32) -> Result<(), AllocError>
     requires { length (papers_of lists.old.entries) + papers ≤ max_papers }
     ensures ok { OnOk result (lists.new.entries ≡ with_papers lists.old.entries list papers) }

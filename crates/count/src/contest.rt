@@ -11,7 +11,7 @@ use crate::bundles::Bundles;
 use paper::{Columns, Prefs, Standing};
 use votes::{MAX_PAPERS, MAX_SEATS};
 
-/// Returns whether all preferences on a paper are for continuing candidates.
+/// Returns whether all preferences on the paper are for continuing candidates.
 fn is_for(standing: &Standing, preferences: &[u8]) -> bool
     ensures { IsTrue result ↔ AllByRecursion (λ c. is_continuing standing.now c ≡ true) preferences.now }
 {
@@ -37,7 +37,7 @@ fn are_for_candidates(candidates: &Columns, papers: &[Prefs]) -> bool
     true
 }
 
-/// Returns whether all preferences on all papers of some bundles are for candidates. Checks each list once.
+/// Returns whether all preferences on all papers of the given bundles are for candidates. Checks each list once.
 fn lists_are_for_candidates(candidates: &Columns, bundles: &Bundles) -> bool
     ensures { IsTrue result ↔ AreForCandidates candidates.now (papers_of bundles.now) }
 {
@@ -60,8 +60,8 @@ fn is_contested(candidates: &Columns, seats: u8) -> bool
     candidates.len() > usize::from(seats)
 }
 
-/// Returns whether a count can be held: 1 to `MAX_SEATS` seats, more candidates than seats, at most `MAX_PAPERS` papers, and
-/// preferences only for candidates. These limits are the office's own; within them the "Quota" and all votes are exact.
+/// Returns whether a count can be held: 1 to `MAX_SEATS` seats, more candidates than seats, at most `MAX_PAPERS` papers,
+/// and preferences only for candidates. These limits are the office's own; within them the "Quota" and all votes are exact.
 #[tactic(auto, using(crate::proofs::ContestLemmas::contests))]
 pub fn can_be_counted(candidates: &Columns, seats: u8, papers: &[Prefs]) -> bool
     ensures { IsTrue result ↔ IsContest (contest_for candidates.now seats papers.now) }

@@ -17,13 +17,13 @@ use std::alloc::AllocError;
 pub enum CountEnd {
     /// No vacancy remains ("Filling of last vacancies").
     Finished,
-    /// A lot is needed among these candidates for this stage, counted from 1, and none is recorded.
+    /// A lot is needed among the candidates in `among` for stage `stage`, counted from 1, and none is recorded.
     LotNeeded { stage: u8, among: Columns },
-    /// A lot is needed for this stage, counted from 1, but the recorded one names none of the tied candidates.
+    /// A lot is needed for stage `stage`, counted from 1, but the recorded one names none of the tied candidates.
     LotNotAmong { stage: u8 },
 }
 
-/// Returns the candidate that the lot for a stage names.
+/// Returns the candidate that the lot for the given stage names.
 pub fn lot_at(lots: &[(u8, u8)], stage: u8) -> Option<u8>
     ensures { result ≡ lot_for lots.now stage }
 {
@@ -72,10 +72,11 @@ pub fn step<B: CountBook>(book: &mut B, lots: &[(u8, u8)]) -> Result<Option<Coun
 
 /// Adds stages until the count is finished or needs a lot that isn't recorded.
 ///
-/// A lot is a pair of a stage, counted from 1, and the candidate that it names. If two are for the same stage, the first counts. The
-/// stages so far must be right for these lots. The book then has the whole count: every list of stages that is right for the same
-/// lots and papers, in any order, is a prefix of it, and every complete count equals it. Of two right lists, one is a prefix of the
-/// other. If an allocation fails, the book has the stages added so far: they are right, and the earlier stages are a prefix of them.
+/// A lot is a pair of a stage, counted from 1, and the candidate that it names. If two are for the same stage, the first one is
+/// used. The stages so far must be correct for these lots. The book then has the whole count: every list of stages that is correct
+/// for the same lots and papers, in any order, is a prefix of it, and every complete count equals it. Of two correct lists, one is a
+/// prefix of the other. If an allocation fails, the book has the stages added so far: they are correct, and the earlier stages are a
+/// prefix of them.
 #[tactic(auto, using(crate::proofs::Law::RightLemmas::beginnings))]
 pub fn run_count<B: CountBook>(book: &mut B, lots: &[(u8, u8)]) -> Result<CountEnd, AllocError>
     requires { IsRight (B.contest book.old) lots.now (B.history book.old) }

@@ -1,4 +1,4 @@
-//! What is due after some stages.
+//! What is due after given stages.
 
 ghost use Rattle.std.specs.Prelude.{◌≡◌, ℕ, ◌<◌, List, [], length, reverse, IfOk, IfErr, Some};
 ghost use Rattle.count.specs.Law.Count.{due_by};
@@ -15,7 +15,7 @@ use crate::terms::Terms;
 use crate::ties::{highest, lowest};
 use paper::Columns;
 
-/// Returns the exclusion of a candidate.
+/// Returns the exclusion of the given candidate.
 fn exclusion(terms: &Terms, stages: &[Stage], c: u8) -> Action
     ensures { result ≡ exclusion_of (contest_of terms.now []) (reverse stages.now) c }
 {
@@ -25,7 +25,7 @@ fn exclusion(terms: &Terms, stages: &[Stage], c: u8) -> Action
     Action::Exclude(c)
 }
 
-/// Returns the action on a candidate, depending on why the group was chosen.
+/// Returns the action on the given candidate, depending on why the group was chosen.
 fn action_on(terms: &Terms, stages: &[Stage], kind: TiedFor, c: u8) -> Action
     ensures { result ≡ action_on_of (contest_of terms.now []) (reverse stages.now) kind c }
 {
@@ -64,7 +64,7 @@ fn due_for(terms: &Terms, stages: &[Stage], group: &Columns) -> Due
     among(terms, stages, TiedFor::Surplus, &highest(stages, group))
 }
 
-/// Returns what is due after some stages. Doesn't read the papers.
+/// Returns what is due after the given stages. Doesn't read the papers.
 pub fn due(terms: &Terms, stages: &[Stage]) -> Due
     requires few { length stages.now < 255 }
     ensures { (papers : List (List ℕ)) → result ≡ due_after (contest_of terms.now papers) (reverse stages.now) }
@@ -88,7 +88,7 @@ pub fn elected_with(terms: &Terms, stages: &[Stage]) -> Columns
     elected(terms, stages)
 }
 
-/// Returns the action that is due, given this lot. Doesn't read the papers.
+/// Returns the action that is due, given the lot. Doesn't read the papers.
 pub fn action_by(terms: &Terms, stages: &[Stage], lot: Option<u8>) -> Result<Action, AdvanceError>
     requires few { length stages.now < 255 }
     ensures ok { IfOk result (λ a. (papers : List (List ℕ)) → drawn (contest_of terms.now papers) (reverse stages.now) lot (due_after (contest_of terms.now papers) (reverse stages.now)) ≡ Some a) }
@@ -121,7 +121,7 @@ pub fn next_action(terms: &Terms, stages: &[Stage], lots: &[(u8, u8)]) -> Option
     }
 }
 
-/// Returns what is due with the recorded lots. Doesn't read the papers.
+/// Returns what is due, given the recorded lots. Doesn't read the papers.
 pub fn due_with(terms: &Terms, stages: &[Stage], lots: &[(u8, u8)]) -> Due
     requires few { length stages.now < 255 }
     ensures { (papers : List (List ℕ)) → result ≡ due_by (contest_of terms.now papers) lots.now (reverse stages.now) }

@@ -1,4 +1,4 @@
-//! The candidates who, after some stages, have reached the quota, are elected, continue or have a surplus.
+//! The candidates who, after given stages, have reached the quota, are elected, continue or have a surplus.
 
 ghost use Rattle.std.specs.Prelude.{◌≡◌, ℕ, ◌≤◌, Bool, ◌&&◌, ◌||◌, not, [], reverse, nat_lt, nat_eq};
 ghost use Rattle.paper.specs.Columns.{max_candidates};
@@ -16,7 +16,7 @@ use crate::terms::Terms;
 use paper::{Columns, Standing};
 use votes::Votes;
 
-/// Returns a candidate's votes after a stage.
+/// Returns the given candidate's votes after the given stage.
 pub fn votes_after(stage: &Stage, c: u8) -> Votes
     requires some { 1 ≤ c }
     requires few { c ≤ max_candidates }
@@ -25,7 +25,7 @@ pub fn votes_after(stage: &Stage, c: u8) -> Votes
     stage.votes[usize::from(c - 1)]
 }
 
-/// Returns a candidate's votes after the newest stage; 0 before the first.
+/// Returns the given candidate's votes after the newest stage; 0 before the first.
 pub fn newest_votes(stages: &[Stage], c: u8) -> Votes
     requires some { 1 ≤ c }
     requires few { c ≤ max_candidates }
@@ -37,7 +37,7 @@ pub fn newest_votes(stages: &[Stage], c: u8) -> Votes
     }
 }
 
-/// Returns whether a candidate's votes reached the quota at some stage.
+/// Returns whether the given candidate's votes reached the quota at some stage.
 fn has_reached(terms: &Terms, stages: &[Stage], c: u8) -> bool
     requires some { 1 ≤ c }
     requires few { c ≤ max_candidates }
@@ -47,7 +47,7 @@ fn has_reached(terms: &Terms, stages: &[Stage], c: u8) -> bool
 }
 
 impl Action {
-    /// Returns whether the action excludes a candidate.
+    /// Returns whether the action excludes the given candidate.
     pub fn excludes(&self, c: u8) -> bool
         ensures { result ≡ excludes_of self.now c }
     {
@@ -57,7 +57,7 @@ impl Action {
         }
     }
 
-    /// Returns whether the action transfers a candidate's surplus.
+    /// Returns whether the action transfers the given candidate's surplus.
     fn transfers(&self, c: u8) -> bool
         ensures { result ≡ transfers_of self.now c }
     {
@@ -68,21 +68,21 @@ impl Action {
     }
 }
 
-/// Returns whether a candidate has been excluded.
+/// Returns whether the given candidate has been excluded.
 pub fn is_excluded(stages: &[Stage], c: u8) -> bool
     ensures { result ≡ is_excluded_of (reverse stages.now) c }
 {
     stages.iter().any(|stage| stage.action.excludes(c))
 }
 
-/// Returns whether a candidate's surplus has been transferred.
+/// Returns whether the given candidate's surplus has been transferred.
 fn is_transferred(stages: &[Stage], c: u8) -> bool
     ensures { result ≡ is_transferred_of (reverse stages.now) c }
 {
     stages.iter().any(|stage| stage.action.transfers(c))
 }
 
-/// Returns whether a candidate's surplus has been transferred by these stages or by one more action.
+/// Returns whether the given candidate's surplus has been transferred by the given stages or by the given action.
 pub fn is_transferred_with(stages: &[Stage], action: &Action, c: u8) -> bool
     ensures { result ≡ (transfers_of action.now c || is_transferred_of (reverse stages.now) c) }
 {
@@ -92,7 +92,7 @@ pub fn is_transferred_with(stages: &[Stage], action: &Action, c: u8) -> bool
     is_transferred(stages, c)
 }
 
-/// Returns the members of a set that pass a test.
+/// Returns the members of the set that pass the test.
 pub fn those<F: Fn(u8) -> bool>(set: &Columns, passes: F) -> Columns
     requires { (c : ℕ) → 1 ≤ c → c ≤ max_candidates → F.pre passes c }
     ensures { (test : ℕ → Bool) → ((c : ℕ) (passed : Bool) → 1 ≤ c → c ≤ max_candidates → F.post passes c passed → passed ≡ test c) → result ≡ filter test set.now }
@@ -106,7 +106,7 @@ pub fn those<F: Fn(u8) -> bool>(set: &Columns, passes: F) -> Columns
     chosen
 }
 
-/// Returns whether a member of a set passes a test.
+/// Returns whether a member of the set passes the test.
 pub fn has_one<F: Fn(u8) -> bool>(set: &Columns, passes: F) -> bool
     requires { (c : ℕ) → 1 ≤ c → c ≤ max_candidates → F.pre passes c }
     ensures { (test : ℕ → Bool) → ((c : ℕ) (passed : Bool) → 1 ≤ c → c ≤ max_candidates → F.post passes c passed → passed ≡ test c) → result ≡ list_any test set.now }
@@ -126,7 +126,7 @@ fn with_quota(terms: &Terms, stages: &[Stage]) -> Columns
     those(&terms.candidates, |c| has_reached(terms, stages, c))
 }
 
-/// Returns whether a candidate has neither reached the quota nor been excluded.
+/// Returns whether the given candidate has neither reached the quota nor been excluded.
 fn is_undecided(terms: &Terms, stages: &[Stage], c: u8) -> bool
     requires some { 1 ≤ c }
     requires few { c ≤ max_candidates }
@@ -152,7 +152,7 @@ fn undecided_fill(terms: &Terms, stages: &[Stage]) -> bool
     with_quota(terms, stages).len() + undecided(terms, stages).len() == usize::from(terms.seats)
 }
 
-/// Returns whether a candidate is elected, given whether the undecided candidates fill the seats.
+/// Returns whether the candidate is elected, given whether the undecided candidates fill the seats.
 fn is_elected(terms: &Terms, stages: &[Stage], fill: bool, c: u8) -> bool
     requires some { 1 ≤ c }
     requires few { c ≤ max_candidates }
@@ -175,7 +175,7 @@ pub fn elected(terms: &Terms, stages: &[Stage]) -> Columns
     those(&terms.candidates, |c| is_elected(terms, stages, fill, c))
 }
 
-/// Returns whether a candidate continues, given whether the undecided candidates fill the seats.
+/// Returns whether the candidate continues, given whether the undecided candidates fill the seats.
 fn is_continuing(terms: &Terms, stages: &[Stage], fill: bool, c: u8) -> bool
     requires some { 1 ≤ c }
     requires few { c ≤ max_candidates }
@@ -215,14 +215,14 @@ pub fn vacancies(terms: &Terms, stages: &[Stage]) -> usize
     usize::from(terms.seats).saturating_sub(elected(terms, stages).len())
 }
 
-/// Returns the elected candidates with more than the quota after a stage.
+/// Returns the elected candidates with more than the quota after the given stage.
 pub fn with_surplus(elected: &Columns, quota: Votes, newest: &Stage) -> Columns
     ensures { result ≡ filter (λ c. nat_lt quota (votes_at newest.now c)) elected.now }
 {
     those(elected, |c| quota.units() < votes_after(newest, c).units())
 }
 
-/// Returns the members of a set that aren't in another set.
+/// Returns the members of `set` that aren't in `others`.
 pub fn without(set: &Columns, others: &Columns) -> Columns
     ensures { result ≡ filter (λ c. not (list_any (nat_eq c) others.now)) set.now }
 {

@@ -48,14 +48,14 @@ pub struct Figure {
     pub mark: u32,
 }
 
-/// Returns whether a candidate was named as elected at some stage.
+/// Returns whether the given candidate was named as elected at some stage.
 fn is_named(stages: &[Stage], c: u8) -> bool
     ensures { result ≡ is_named_of (reverse stages.now) c }
 {
     stages.iter().any(|stage| stage.elected.has(c))
 }
 
-/// Returns the mark of a candidate at a stage that doesn't act on the candidate.
+/// Returns the mark of the given candidate at a stage that doesn't act on the candidate.
 fn standing_mark(stages: &[Stage], c: u8) -> u32
     ensures { result ≡ standing_mark_of (reverse stages.now) c }
 {
@@ -68,7 +68,8 @@ fn standing_mark(stages: &[Stage], c: u8) -> u32
     CONTINUING
 }
 
-/// Returns the mark of a candidate at the stage of an action: that of the action if it is on the candidate, otherwise the other mark.
+/// Returns the mark of the given candidate at the stage of the action: that of the action if it acts on the candidate, otherwise the
+/// other mark.
 fn mark_by(action: &Action, c: u8, other: u32) -> u32
     ensures { result ≡ mark_by_of action.now c other }
 {
@@ -80,7 +81,7 @@ fn mark_by(action: &Action, c: u8, other: u32) -> u32
     }
 }
 
-/// Returns the figure of a candidate at the newest stage.
+/// Returns the figure of the given candidate at the newest stage.
 fn figure_of(newest: &Stage, stages: &[Stage], c: u8) -> Figure
     requires some { 1 ≤ c }
     requires few { c ≤ max_candidates }
@@ -122,14 +123,14 @@ pub fn figures_of(
     Ok(figures)
 }
 
-/// Returns whether a mark is that of an elected candidate.
+/// Returns whether the mark is that of an elected candidate.
 fn is_elected_mark(mark: u32) -> bool
     ensures { result ≡ is_elected_mark_of mark }
 {
     mark == ELECTED || mark == SURPLUS_NOW
 }
 
-/// Returns the candidates that are marked as elected.
+/// Returns the candidates who are marked as elected.
 fn elected_in(candidates: &Columns, figures: &[Figure]) -> Columns
     requires { length figures.now ≡ length candidates.now }
     ensures { (f : ℕ → Figure) → figures.now ≡ map f candidates.now → result ≡ elected_shown f candidates.now }
@@ -143,7 +144,7 @@ fn elected_in(candidates: &Columns, figures: &[Figure]) -> Columns
     chosen
 }
 
-/// Returns the votes of all numbers; 0 for those that aren't candidates.
+/// Returns the votes for all candidate numbers; 0 for those that no candidate has.
 fn votes_in(candidates: &Columns, figures: &[Figure]) -> [Votes; MAX_CANDIDATES]
     requires { length figures.now ≡ length candidates.now }
     ensures { (f : ℕ → Figure) → figures.now ≡ map f candidates.now → result ≡ votes_shown f candidates.now }
@@ -155,7 +156,7 @@ fn votes_in(candidates: &Columns, figures: &[Figure]) -> [Votes; MAX_CANDIDATES]
     votes
 }
 
-/// Returns the action that a candidate's mark shows, if any.
+/// Returns the action that the candidate's mark shows, if any.
 fn action_by(mark: u32, c: u8) -> Option<Action>
     ensures { result ≡ action_by_mark mark c }
 {
@@ -209,9 +210,9 @@ fn push_stage(
     Ok(())
 }
 
-/// Returns the stages with these figures, in order. Each stage has one figure per candidate, plus two; `None` if the number of
-/// figures doesn't fit that. The figures of a count with these candidates yield all its stages; other figures yield whatever their
-/// marks and units mean. `AllocError` if an allocation fails.
+/// Returns the stages with the given figures, in order. Each stage has one figure per candidate, plus two; `None` if the number of
+/// figures doesn't match this. The figures of a count with these candidates yield all its stages; other figures yield whatever
+/// their marks and units mean. `AllocError` if an allocation fails.
 pub fn stages_of_figures(
     alloc: Global,
     candidates: &Columns,

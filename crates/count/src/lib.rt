@@ -1,8 +1,8 @@
 //! The Order's count by the single transferable vote, stage by stage.
 //!
 //! A [`CountBook`] is a count in progress: the completed stages, what is [`Due`], and [`CountBook::advance`], which adds the one
-//! stage that is due. [`ParcelBook`] stores the papers in parcels, as a teller does. [`BundleBook`] stores equal papers as one of
-//! [`Bundles`], each [`Placed`] with one holder, and can resume another count of this kind. [`StoredCount`] resumes a stored count
+//! stage that is due. [`ParcelBook`] stores the papers in parcels, as a teller does. [`BundleBook`] stores equal papers in
+//! [`Bundles`], each [`Placed`] with one holder, and can resume another count in bundles. [`StoredCount`] resumes a stored count
 //! one stage at a time, wherever it was read from. [`run_count`] counts to the end with the recorded lots, and [`count_to`] counts
 //! a given number of stages. [`due_by`] and [`dues_to`] return what is due, given those lots.
 //!

@@ -17,7 +17,8 @@ use paper::Prefs;
 use std::alloc::{AllocError, Global};
 use votes::Votes;
 
-/// Returns the rule for values on a surplus: each is multiplied by the ratio of the surplus to the votes credited, and rounded down.
+/// Returns the rule for the values of papers transferred from a surplus: each value is multiplied by the ratio of the surplus to the
+/// votes credited, and rounded down.
 pub fn surplus_rule(quota: Votes, credited: Votes) -> TransferRule
     requires some { 0 < quota }
     requires above { quota < credited }
@@ -67,7 +68,7 @@ pub fn moved_by<'a>(
     }
 }
 
-/// Returns whether an action passes on the papers of a holder.
+/// Returns whether the action passes on the given holder's papers.
 pub fn passes_on(action: &Action, holder: u8) -> bool
     ensures { result ≡ passes_on_of action.now holder }
 {
@@ -77,7 +78,7 @@ pub fn passes_on(action: &Action, holder: u8) -> bool
     }
 }
 
-/// Removes the holdings whose papers an action passes on.
+/// Removes the holdings whose papers the action passes on.
 fn leave_out<'a>(holdings: &mut Vec<Holding<'a>>, action: &Action)
     ensures kept { holdings.new.items ≡ filter (λ holding. not (passes_on_of action.now holding.holder)) holdings.old.items }
     ensures capacity { vec_capacity holdings.new ≡ vec_capacity holdings.old }
@@ -86,7 +87,7 @@ fn leave_out<'a>(holdings: &mut Vec<Holding<'a>>, action: &Action)
     holdings.retain(|holding| !passes_on(action, holding.holder));
 }
 
-/// Replaces the holdings whose papers an action passed on with the new ones.
+/// Replaces the holdings whose papers the action passed on with the new ones.
 pub fn replace<'a>(holdings: &mut Vec<Holding<'a>>, action: &Action, moved: Vec<Holding<'a>>)
     requires { vec_len holdings.old + vec_len moved ≤ vec_capacity holdings.old }
     ensures { (f : ℕ → List ℕ → ℕ → ℕ) → total f holdings.new.items ≡ total f moved.entry.items + total (kept_by f action.now) holdings.old.items }

@@ -1,4 +1,4 @@
-//! A count by parcels.
+//! A count in parcels.
 
 ghost use Rattle.std.specs.Prelude.{◌≡◌, [], IfOk};
 ghost use Rattle.count.specs.Law.Contest.{contest_for, IsContest};

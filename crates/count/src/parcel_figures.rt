@@ -18,7 +18,7 @@ use crate::terms::Terms;
 use paper::{Columns, MAX_CANDIDATES};
 use votes::Votes;
 
-/// Returns the worth of the papers of some parcels, in units.
+/// Returns the worth of the papers of the given parcels, in units.
 fn worth_of_parcels(parcels: &[Parcel]) -> u64
     requires { total_of (λ rest v. v) parcels.now ≤ max_units }
     ensures { result ≡ total_of (λ rest v. v) parcels.now }
@@ -30,7 +30,7 @@ fn worth_of_parcels(parcels: &[Parcel]) -> u64
     sum
 }
 
-/// Returns the worth of the papers that one holder has in some holdings, in units.
+/// Returns the worth of the papers that one holder has in the given holdings, in units.
 fn worth_to(holder: u8, holdings: &[Holding]) -> u64
     requires { worth_of holdings.now ≤ max_units }
     ensures { result ≡ worth_to_of holder holdings.now }
@@ -44,7 +44,7 @@ fn worth_to(holder: u8, holdings: &[Holding]) -> u64
     sum
 }
 
-/// Returns the total worth of the papers of some holdings, in units.
+/// Returns the total worth of the papers of the given holdings, in units.
 fn worth(holdings: &[Holding]) -> u64
     requires { worth_of holdings.now ≤ max_units }
     ensures { result ≡ worth_of holdings.now }
@@ -56,8 +56,8 @@ fn worth(holdings: &[Holding]) -> u64
     sum
 }
 
-/// Returns the votes of a candidate after an action has moved papers: exactly the quota once the surplus is transferred, otherwise
-/// the sum of the votes kept and received.
+/// Returns the votes of the given candidate after the action has moved papers: exactly the quota once the surplus is transferred,
+/// otherwise the sum of the votes kept and received.
 fn votes_with(quota: Votes, stages: &[Stage], action: &Action, moved: &[Holding], c: u8) -> Votes
     requires some { 1 ≤ c }
     requires few { c ≤ max_candidates }
@@ -74,7 +74,7 @@ fn votes_with(quota: Votes, stages: &[Stage], action: &Action, moved: &[Holding]
     Votes::from_units(given + newest_votes(stages, c).units())
 }
 
-/// Returns the votes of all numbers after an action has moved papers.
+/// Returns the votes for all candidate numbers after the action has moved papers.
 fn all_votes(
     quota: Votes,
     stages: &[Stage],
@@ -91,7 +91,7 @@ fn all_votes(
     votes
 }
 
-/// Returns the non-transferable votes after an action has moved papers.
+/// Returns the non-transferable votes after the action has moved papers.
 fn non_transferable_with(stages: &[Stage], moved: &[Holding]) -> Votes
     requires { AreSmall (reverse stages.now) moved.now }
     ensures { result ≡ newest_non_transferable (reverse stages.now) + worth_to_of 0 moved.now }
@@ -113,7 +113,7 @@ pub fn newest_lost(stages: &[Stage]) -> u64
     }
 }
 
-/// Returns the loss by fractions after an action has moved papers; a surplus adds the part that exceeds the values transferred.
+/// Returns the loss by fractions after the action has moved papers; a surplus adds the part that exceeds the values transferred.
 fn lost_with(quota: Votes, stages: &[Stage], action: &Action, moved: &[Holding]) -> Votes
     requires column { (c : ℕ) → action.now ≡ Action.Surplus c → (1 ≤ c) × (c ≤ max_candidates) }
     requires small { AreSmall (reverse stages.now) moved.now }

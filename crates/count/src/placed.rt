@@ -2,7 +2,7 @@
 
 use votes::Votes;
 
-/// The place of the papers of one list of preferences after some stages: all have one holder and one value.
+/// The place of the papers of one list of preferences after given stages: all have one holder and one value.
 #[derive(Clone, Copy, PartialEq, Eq)]
 pub struct Placed {
     /// The holder: a candidate's number, or 0 for no one.

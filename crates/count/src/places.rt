@@ -40,7 +40,7 @@ pub fn no_places(alloc: Global, bundles: &Bundles) -> Result<Vec<Placed>, AllocE
     Ok(none)
 }
 
-/// Returns the number of preferences before the one for a candidate.
+/// Returns the number of preferences before the one for the given candidate.
 fn count_before(preferences: &[u8], c: u8) -> usize
     ensures is { result ≡ prefix_len (λ d. not (d == c)) preferences.now }
     ensures within { result ≤ length preferences.now }
@@ -48,15 +48,15 @@ fn count_before(preferences: &[u8], c: u8) -> usize
     preferences.iter().take_while(|d| **d != c).count()
 }
 
-/// Returns the preferences starting with the one for a candidate; empty if there is none.
+/// Returns the preferences starting with the one for the given candidate; empty if there is none.
 fn from_holder<'a>(preferences: &'a [u8], c: u8) -> &'a [u8]
     ensures { result.now ≡ from_first (λ d. d == c) preferences.now }
 {
     &preferences[count_before(preferences, c)..]
 }
 
-/// Returns the place of equal papers after a candidate's papers are passed on. If the candidate holds them, they move to their next
-/// available preference, at the value that the rule computes from theirs; otherwise they stay.
+/// Returns the place of equal papers after the given candidate's papers are passed on. If the candidate holds them, they move to
+/// their next available preference, at the value that the rule computes from theirs; otherwise they stay.
 fn passed_place(
     list: &Prefs,
     at: &Placed,
@@ -78,7 +78,7 @@ fn passed_place(
     }
 }
 
-/// Returns the places of all bundles after a candidate's papers are passed on. `AllocError` if an allocation fails.
+/// Returns the places of all bundles after the given candidate's papers are passed on. `AllocError` if an allocation fails.
 fn passed_places(
     alloc: Global,
     bundles: &Bundles,
@@ -120,7 +120,7 @@ fn dealt_places(alloc: Global, bundles: &Bundles) -> Result<Vec<Placed>, AllocEr
     Ok(dealt)
 }
 
-/// Returns the share of the votes credited to a candidate that is transferred with the surplus. `None` if the candidate has no more
+/// Returns the share of the candidate's credited votes that is transferred with the surplus. `None` if the candidate has no more
 /// than the quota, or more than one vote for each of `MAX_PAPERS` papers.
 fn share_of(quota: Votes, stages: &[Stage], c: u8) -> Option<TransferRule>
     ensures rule { IfSome result IsTransferRule }
@@ -164,7 +164,7 @@ fn places_by_surplus(
     }
 }
 
-/// Returns the places of all bundles after an action; the old ones are unchanged. `AllocError` if an allocation fails.
+/// Returns the places of all bundles after the given action; the old ones are unchanged. `AllocError` if an allocation fails.
 pub fn moved_places(
     alloc: Global,
     terms: &Terms,

@@ -26,9 +26,10 @@ fn advance_by<B: CountBook>(book: &mut B, lots: &[(u8, u8)]) -> Result<(), Alloc
 
 /// Counts a given number of stages, or as many as there are: a new book then has those stages of the count.
 ///
-/// A lot is a pair of a stage, counted from 1, and the candidate that it names; if two are for the same stage, the first counts.
-/// These stages are right for the lots, and the only right ones; the order of the papers makes no difference. `AllocError` if an
-/// allocation fails; the book then has the stages added so far, at most as many as requested, and they are right.
+/// A lot is a pair of a stage, counted from 1, and the candidate that it names; if two are for the same stage, the first one is
+/// used. These stages are correct for the lots, and the only correct ones; the order of the papers makes no difference.
+/// `AllocError` if an allocation fails; the book then has the stages added so far, at most as many as requested, and they are
+/// correct.
 #[tactic(auto, using(crate::proofs::Law::CountLemmas::stages_counted), unfolding(crate::specs::Law::Count::stages_to))]
 pub fn count_to<B: CountBook>(
     book: &mut B,
@@ -51,8 +52,8 @@ pub fn count_to<B: CountBook>(
     Ok(())
 }
 
-/// Returns what is due with the recorded lots: the next action, or the lot that the count is waiting for, or nothing. Moves no
-/// paper, and allocates nothing.
+/// Returns what is due, given the recorded lots: the next action, or the lot that the count is waiting for, or nothing. Moves
+/// no paper, and allocates nothing.
 #[tactic(auto, using(crate::proofs::Law::DueLemmas::due_lot, crate::proofs::Law::CountLemmas::due_lots))]
 pub fn due_by<B: CountBook>(book: &B, lots: &[(u8, u8)]) -> Due
     ensures { result ≡ due_by_lots (B.contest book.now) lots.now (B.history book.now) }
@@ -69,7 +70,7 @@ pub fn due_by<B: CountBook>(book: &B, lots: &[(u8, u8)]) -> Due
 
 /// Counts a given number of stages with the recorded lots, and returns what is due before each of them and after the last; a new
 /// book then has those stages. A lot is returned as due even if it is recorded. `AllocError` if an allocation fails; the book then
-/// has the stages added so far, at most as many as requested, and they are right.
+/// has the stages added so far, at most as many as requested, and they are correct.
 #[tactic(auto, using(crate::proofs::Law::CountLemmas::stages_counted), unfolding(crate::specs::Law::Count::stages_to))]
 pub fn dues_to<B: CountBook>(
     alloc: Global,

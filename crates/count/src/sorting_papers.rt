@@ -44,7 +44,7 @@ fn empty_holdings<'a>(alloc: Global) -> Result<Vec<Holding<'a>>, AllocError>
     Ok(holdings)
 }
 
-/// Starts a parcel with one paper.
+/// Starts a parcel with the given paper.
 fn start_parcel<'a>(
     alloc: Global,
     parcels: &mut Vec<Parcel<'a>>,
@@ -82,7 +82,7 @@ fn add_paper<'a>(
     Ok(())
 }
 
-/// Credits a paper to the candidate of its first preference, or to no one.
+/// Credits a paper to the candidate who is its first preference, or to no one.
 fn give<'a>(
     alloc: Global,
     holdings: &mut Vec<Holding<'a>>,
@@ -102,7 +102,7 @@ fn give<'a>(
     Ok(())
 }
 
-/// Passes papers on to their next available preferences, at a value.
+/// Passes papers on to their next available preferences, at the given value.
 #[tactic(auto, using(crate::proofs::ParcelTotals::known_holders))]
 fn pass_papers<'a>(
     alloc: Global,
@@ -162,7 +162,7 @@ fn pass_parcels<'a>(
     Ok(())
 }
 
-/// Returns the holdings of a candidate's papers after they are passed on.
+/// Returns the holdings of the given candidate's papers after they are passed on.
 pub fn pass_on<'a>(
     alloc: Global,
     holdings: &[Holding<'a>],

@@ -7,7 +7,7 @@ use crate::elected::{elected, without};
 use crate::stages::Stage;
 use crate::terms::Terms;
 
-/// Appends a stage to the earlier ones, with its newly elected candidates filled in; there must be room.
+/// Appends the stage to the earlier ones, with its newly elected candidates filled in; there must be room.
 pub fn add_stage(terms: &Terms, stages: &mut Vec<Stage>, bare: Stage)
     requires { vec_len stages.old < vec_capacity stages.old }
     ensures { IsAdded terms.now (reverse stages.old.items) bare (reverse stages.new.items) }

@@ -63,8 +63,8 @@ pub enum TiedFor {
 pub enum Due {
     /// An action is due.
     Act(Action),
-    /// A lot must be drawn for this stage, counted from 1, among two or more candidates whose votes were equal at all stages
-    /// ("Transfer of ballot papers"; "Exclusion of candidates").
+    /// A lot must be drawn for stage `stage`, counted from 1, among two or more candidates whose votes were equal at all
+    /// stages ("Transfer of ballot papers"; "Exclusion of candidates").
     Lot {
         stage: u8,
         kind: TiedFor,

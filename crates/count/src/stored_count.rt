@@ -25,7 +25,7 @@ use std::alloc::{AllocError, Global};
 use std::marker::Model;
 use votes::ONE_VOTE;
 
-/// The outcome of one more stage.
+/// The outcome of adding a stage.
 #[derive(Drop)]
 pub struct NextStage {
     /// The place of each bundle after the stage, in the order of the bundles.
@@ -35,8 +35,8 @@ pub struct NextStage {
 }
 
 /// A stored count, from which counting resumes: its bundles, their places, and the stages so far. No stage is counted again. Faulty
-/// storage may return anything, so only the ranges of the stored data are required, and these are checked. The results are right if
-/// the stored data is that of a count.
+/// storage may return anything, so only the ranges of the stored data are required, and these are checked. The results are correct
+/// if the stored data is that of a count.
 #[derive(Drop)]
 pub struct StoredCount {
     terms: Terms,
@@ -130,7 +130,7 @@ impl StoredCount {
         &self.stages
     }
 
-    /// Returns what is due with the recorded lots: the next action, or the lot that the count is waiting for, or nothing.
+    /// Returns what is due given the recorded lots: the next action, or the lot that the count is waiting for, or nothing.
     pub fn due_by(&self, lots: &[(u8, u8)]) -> Due
         ensures { (contest : Contest) (history : History) → IsStoredCountOf contest history self.now → result ≡ due_by_lots contest lots.now history }
     {
@@ -144,8 +144,8 @@ impl StoredCount {
         elected_with(&self.terms, &self.stages)
     }
 
-    /// Returns the outcome of the stage that is due with the recorded lots. That stage is the only one that can follow. `None` if
-    /// and only if no action is due. `AllocError` if an allocation fails.
+    /// Returns the outcome of the stage that is due given the recorded lots. That stage is the only one that can follow. `None`
+    /// if and only if no action is due. `AllocError` if an allocation fails.
     pub fn next_stage(
         &self,
         alloc: Global,
@@ -191,8 +191,8 @@ fn are_sound(places: &[Placed]) -> bool
     true
 }
 
-/// Returns whether stored data is in range for a count with these candidates and bundles: its places are sound, there are no more
-/// stages than possible, and the loss is at most one vote per paper.
+/// Returns whether stored data is in range for a count with the given candidates and bundles: its places are sound, there are no
+/// more stages than possible, and the loss is at most one vote per paper.
 fn is_in_range(candidates: &Columns, bundles: &Bundles, places: &[Placed], stages: &[Stage]) -> bool
     ensures sound { IsTrue result → AllByRecursion IsSound places.now }
     ensures few { IsTrue result → length stages.now < 255 }

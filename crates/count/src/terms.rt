@@ -17,7 +17,7 @@ pub struct Terms {
     pub quota: Votes,
 }
 
-/// Returns the terms of a contest on the papers of bundles. If no contest has this number of seats, the quota is that for the
+/// Returns the terms of a contest with the papers of bundles. If no contest has this number of seats, the quota is that for the
 /// nearest possible number.
 pub fn terms_on(candidates: Columns, seats: u8, bundles: &Bundles) -> Terms
     ensures candidates { result.candidates ≡ candidates }

@@ -9,7 +9,7 @@ use crate::elected::{has_one, those, votes_after};
 use crate::stages::Stage;
 use paper::Columns;
 
-/// Returns whether a candidate had more votes than another at the most recent stage at which they differed.
+/// Returns whether `c` had more votes than `d` at the most recent stage at which they differed.
 fn is_above(stages: &[Stage], c: u8, d: u8) -> bool
     requires some { 1 ≤ c }
     requires few { c ≤ max_candidates }
@@ -29,7 +29,7 @@ fn is_above(stages: &[Stage], c: u8, d: u8) -> bool
     false
 }
 
-/// Returns whether a member of a group is above a candidate.
+/// Returns whether a member of the group is above the given candidate.
 fn has_above(stages: &[Stage], group: &Columns, c: u8) -> bool
     requires some { 1 ≤ c }
     requires few { c ≤ max_candidates }
@@ -38,7 +38,7 @@ fn has_above(stages: &[Stage], group: &Columns, c: u8) -> bool
     has_one(group, |d| is_above(stages, d, c))
 }
 
-/// Returns whether a candidate is above a member of a group.
+/// Returns whether the given candidate is above a member of the group.
 fn has_below(stages: &[Stage], group: &Columns, c: u8) -> bool
     requires some { 1 ≤ c }
     requires few { c ≤ max_candidates }
@@ -47,14 +47,14 @@ fn has_below(stages: &[Stage], group: &Columns, c: u8) -> bool
     has_one(group, |d| is_above(stages, c, d))
 }
 
-/// Returns the members of a group that have no other member above them.
+/// Returns the members of the group with no other member above them.
 pub fn highest(stages: &[Stage], group: &Columns) -> Columns
     ensures { result ≡ highest_of (reverse stages.now) group.now }
 {
     those(group, |c| !has_above(stages, group, c))
 }
 
-/// Returns the members of a group that are above no other member.
+/// Returns the members of the group that are above no other member.
 pub fn lowest(stages: &[Stage], group: &Columns) -> Columns
     ensures { result ≡ lowest_of (reverse stages.now) group.now }
 {

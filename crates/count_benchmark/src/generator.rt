@@ -13,7 +13,7 @@ impl Generator {
         Generator { state: 2463534242 }
     }
 
-    /// Returns a number below a bound.
+    /// Returns a number below the given bound.
     pub fn below(&mut self, bound: u32) -> u32
         requires { 0 < bound }
         ensures { result < bound }

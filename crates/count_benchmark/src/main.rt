@@ -4,9 +4,9 @@
 //! count_benchmark PAPERS [parcels|bundles [LISTS [STAGES]]]
 //! ```
 //!
-//! Generates a number of papers, either independently or, if LISTS isn't 0, by drawing from that many lists. They are counted in
-//! parcels, the default, or in bundles, up to a number of stages or to the end. Equal arguments produce equal papers: the generator
-//! is deterministic, and lower numbers tend to be preferred.
+//! Generates the given number of papers, either independently or, if LISTS isn't 0, by picking one of that many lists for each
+//! paper. They are counted in parcels, the default, or in bundles, up to the given number of stages or to the end. Equal arguments
+//! produce equal papers: the generator is deterministic, and lower numbers tend to be preferred.
 #![tactic(auto)]
 
 ghost use Rattle.std.specs.Prelude.{◌≡◌, []};
@@ -41,7 +41,7 @@ fn candidates() -> Columns {
     columns
 }
 
-/// Returns a number of papers from a source, stored one by one.
+/// Returns the given number of papers from the source, stored one by one.
 fn listed(alloc: Global, source: &mut PaperSource, count: u32) -> Result<Vec<Prefs>, AllocError> {
     let mut papers = Vec::new(alloc);
     for _ in 0..count {
@@ -52,7 +52,7 @@ fn listed(alloc: Global, source: &mut PaperSource, count: u32) -> Result<Vec<Pre
     Ok(papers)
 }
 
-/// Returns a number of papers from a source, with equal papers stored once.
+/// Returns the given number of papers from the source, with equal papers stored once.
 fn bundled(alloc: Global, source: &mut PaperSource, count: u32) -> Result<Bundles, AllocError> {
     let mut bundles = Bundles::new(alloc);
     for _ in 0..count {
@@ -76,7 +76,7 @@ fn print_stages(rt: &impl Print, stages: &[Stage]) -> Result<()> {
     Ok(())
 }
 
-/// Counts up to a number of stages in a new book, and prints them.
+/// Counts up to the given number of stages in a new book, and prints them.
 fn count_in<B: CountBook>(rt: &impl Print, book: &mut B, stages: u32) -> Result<()>
     requires { B.history book.old ≡ [] }
 {
@@ -87,7 +87,7 @@ fn count_in<B: CountBook>(rt: &impl Print, book: &mut B, stages: u32) -> Result<
     print_stages(rt, book.stages())
 }
 
-/// Parses the number in an argument, or returns a default if there is no argument.
+/// Parses the number in an argument, or returns the given default if there is no argument.
 fn number_or(word: Option<&String>, other: u32) -> Result<u32> {
     match word {
         Some(word) => Ok(word.as_str().parse::<u32>()?),

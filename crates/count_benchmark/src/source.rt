@@ -4,7 +4,7 @@ use crate::generator::Generator;
 use paper::Prefs;
 use std::alloc::{AllocError, Global};
 
-/// A source of papers, which are either generated independently or drawn from some lists.
+/// A source of papers, which are either generated independently or drawn from a fixed number of lists.
 #[derive(Drop)]
 pub struct PaperSource {
     generator: Generator,
@@ -18,7 +18,7 @@ fn made_up(generator: &mut Generator) -> Option<Prefs> {
 }
 
 impl PaperSource {
-    /// Returns a source that draws from a number of lists; if the number is 0, every paper is generated.
+    /// Returns a source that draws from the given number of lists; if the number is 0, every paper is generated.
     pub fn new(alloc: Global, lists: u32) -> Result<PaperSource, AllocError> {
         let mut generator = Generator::new();
         let mut made = Vec::new(alloc);

@@ -1,4 +1,4 @@
--- What is printed for a copy, and when its files are closed afterwards.
+-- What is printed for a copy, and for closing its files afterwards.
 use Rattle.std.proofs.Common.{◌≡◌, ◌≢◌, ◌⊎◌, ◌∙◌, ℕ, Bool, true, false, true≢false, List, Option, None, inl, inr, refl, sym, ap, subst, arith, eqb-true}
 use Rattle.std.specs.Prelude.{◌==◌}
 use Rattle.sqlite.specs.Held.{Held}
@@ -16,7 +16,7 @@ use Rattle.desk.proofs.TellingLemmas.{goes_after_zero, shown_whole, shown_zero}
 use Rattle.server.specs.ServedOrders.{IsCopyTold}
 use Rattle.count_office.specs.Done.{EndsCopy}
 
--- what was printed with status 0 was written completely
+-- if the status is 0, everything printed was written completely
 pub whole_at_zero : (cut : Cut) (old new : Outputs) (page : Page) (status : ℕ) → status ≡ 0 → IsShown cut old new page status → IsWhole old new page status
 whole_at_zero cut old new page status zero shown = shown_whole false cut old new page status shown (goes_after_zero false status zero)
 
@@ -25,7 +25,7 @@ copy_told : (s : OfficeState) (page : Page) (left : CopyState) (old new blank fu
 copy_told s page left old new blank full (inl made) = inl made.0
 copy_told s page left old new blank full (inr (failure, is, ends, leaves)) = inr (inr (failure, is))
 
--- the same, if the status is 0, followed by the failure saying that the log couldn't be copied into the database file
+-- what is printed for a copy, if the status is 0, followed by the failure saying that the log couldn't be copied into the database file
 copy_unclosed : (s : OfficeState) (page : Page) (left : CopyState) (old new blank full : State) → page.status ≡ 0 → IsCopiedOpen s page left old new blank full
     → IsCopyTold s (below page (failed CopyFailed))
 copy_unclosed s page left old new blank full zero (inl made) = inr (inl (ap (λ (p : Page). below p (failed CopyFailed)) made.0))
@@ -40,7 +40,7 @@ module _ {O E : Type 0} (taken : O → Option (List ℕ)) (calls : O → ℕ) (t
   abbrev outputs : O → E → Outputs
   outputs out err = outputs_of taken calls taken_err calls_err out err
 
-  -- a failure that is printed for an office that stays unchanged
+  -- a failure is printed, and the office stays unchanged
   pub failure_told : {S : Type 0} (state_of : Held S → State) (old new : OfficeValue S) (out : O) (err err_new : E) (failure : Failure) (ends : ℕ)
       → IsErrorTold taken_err calls_err err err_new (failed failure).err 3 ends
       → Tells (outputs out err) (outputs out err_new) ends (λ cut page. WhenOpenAt state_of old new (λ s. IsCopyTold s page))
@@ -49,11 +49,11 @@ module _ {O E : Type 0} (taken : O → Option (List ℕ)) (calls : O → ℕ) (t
       record { page = failed failure; cut = told.0; shown = told.1; is = λ clean was s at. inr (inr (failure, refl)) }
 
   module _ {S : Type 0} (state_of : Held S → State) (old new : OfficeValue S) (left : CopyState) (blank full : State) where
-    -- what is printed for a copy of the office that was open
+    -- what is printed for a copy of an office that was open
     abbrev TellsCopy : O → O → E → E → ℕ → Type 0
     TellsCopy out out_new err err_new ends = Tells (outputs out err) (outputs out_new err_new) ends (λ cut page. WhenOpenAt state_of old new (λ s. IsCopyTold s page))
 
-    -- what is printed for a copy and, after status 0, for the closing of its files
+    -- what is printed for a copy and, after status 0, for closing its files
     pub closed_told : (out out_new : O) (err err_mid err_new : E) (status ends : ℕ)
         → Tells (outputs out err) (outputs out_new err_mid) status (λ cut page. HoldsCopy left page blank full × WhenOpenAt state_of old new
         (λ s. IsCopiedOpen s page left (state_of old.held) (state_of new.held) blank full) × (old.closed ≡ true → page ≡ closed_page))
@@ -71,7 +71,7 @@ module _ {O E : Type 0} (taken : O → Option (List ℕ)) (calls : O → ℕ) (t
           is = λ clean was s at. copy_told s told.page left (state_of old.held) (state_of new.held) blank full (told.is.1 clean was s at);
         }
 
-        -- and the failure is printed after the page
+        -- the failure is printed after the page
         below_it : status ≡ 0 → IsErrorTold taken_err calls_err err_mid err_new (failed CopyFailed).err 3 ends → TellsCopy out out_new err err_new ends
         below_it zero error =
             let first = whole_at_zero told.cut (outputs out err) (outputs out_new err_mid) told.page status zero told.shown in

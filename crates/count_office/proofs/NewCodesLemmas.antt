@@ -10,12 +10,12 @@ use Rattle.desk.specs.Pages.{Outputs, Page, Shows, Tells, codes_page, printed}
 use Rattle.count_office.specs.NewCodes.{IsPageOfNewCodes, IsPageOfSlips, made_page}
 use Rattle.count_office.specs.Serving.{untaken}
 
--- a page that was shown is printed, if it is one of the order's pages
+-- the page that was printed is the order's, if it is one of the pages that the order may print
 pub told_as : (old new : Outputs) (status : ℕ) (named : Option ClerksEntry) (with_office : Bool) (page : Page) → Shows old new page status → IsPageOfNewCodes named with_office page
     → Tells old new status (λ _ page. IsPageOfNewCodes named with_office page)
 told_as old new status named with_office page shown is = record { page = page; cut = shown.0; shown = shown.1; is = is }
 
--- the reason why there are no codes is printed only on the error output
+-- the reason why there are no codes is printed only to the error output
 pub untaken_silent : (why : CodesError) → (untaken why).out ≡ []
 untaken_silent codes_error.Memory = refl
 untaken_silent (codes_error.Fault fault) = refl

@@ -1,4 +1,4 @@
--- Parts of a message that can be encoded, and one more.
+-- Parts of a message that can be encoded, after adding another.
 use Rattle.std.proofs.Common.{◌≡◌, List, [], ◌∷◌, ◌++◌, subst, sym}
 use Rattle.std.specs.List.{AllByRecursion}
 use Rattle.order_protocol.specs.Messages.{PieceFits, message_part_entries, message_part_entry}

@@ -1,16 +1,16 @@
--- Bytes as they are shown on a terminal: with one more byte at a time, and their prefixes.
+-- Bytes as they are shown on a terminal: byte by byte, and their prefixes.
 use Rattle.std.proofs.Common.{arith, subst, ◌≡◌, ◌∙◌, ◌<◌, ◌≤◌, ◌+◌, ℕ, zero, suc, List, [], ◌∷◌, ◌++◌, length, take, drop, set, get_or, ap, sym, refl}
 use Rattle.std.proofs.Math.Seq.{drop-cons}
 use Rattle.std.proofs.lemmas.List.{append_assoc, take_more_set}
 use Rattle.count_office.specs.Screens.{last_two, masked, shown_byte}
 
--- what is left begins with the byte at this index
+-- the remaining bytes begin with the byte at the given index
 left : (bytes : List ℕ) (i : ℕ) → i < length bytes → drop i bytes ≡ get_or bytes i 0 ∷ drop (i + 1) bytes
 left bytes i here =
     let next : suc i ≡ i + 1 = omega arith in
     subst (λ n. drop i bytes ≡ get_or bytes i 0 ∷ drop n bytes) next (drop-cons bytes i 0 here)
 
--- all bytes, masked, are those in the array so far followed by what is left, masked; the same with one more byte
+-- all bytes, masked, are those in the array so far followed by the remaining ones, masked; this still holds with another byte in the array
 pub shown_more : (all room bytes : List ℕ) (i first second s : ℕ) → i < length bytes → i < length room → s ≡ shown_byte first second (get_or bytes i 0)
     → all ≡ take i room ++ masked first second (drop i bytes)
     → all ≡ take (i + 1) (set room i s) ++ masked second (get_or bytes i 0) (drop (i + 1) bytes)
@@ -23,7 +23,7 @@ shown_more all room bytes i first second s here place is so_far =
     ∙ sym (append_assoc (take i room) (s ∷ []) rest)
     ∙ ap (λ xs. xs ++ rest) (sym (take_more_set room i s place))
 
--- the last two bytes after one more byte
+-- the last two bytes after another byte
 pub last_more : (all : ℕ × ℕ) (bytes : List ℕ) (i first second : ℕ) → i < length bytes
     → all ≡ last_two first second (drop i bytes) → all ≡ last_two second (get_or bytes i 0) (drop (i + 1) bytes)
 unfolding last_two
@@ -36,7 +36,7 @@ take_masked zero first second bytes = refl
 take_masked (suc n) first second [] = refl
 take_masked (suc n) first second (b ∷ bytes) = ap (λ xs. shown_byte first second b ∷ xs) (take_masked n second b bytes)
 
--- no bytes are shown as no bytes, and leave the last two unchanged
+-- an empty list of bytes is shown as such, and leaves the last two unchanged
 pub masked_none : (first second : ℕ) → masked first second [] ≡ []
 unfolding masked
 masked_none first second = refl

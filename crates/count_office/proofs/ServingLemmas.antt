@@ -18,7 +18,7 @@ use Rattle.count_office.specs.Serving.{outcome_by, path_in, public_in}
 use Rattle.count_office.specs.declared.gate.GateFiles.{GateFiles}
 use Rattle.count_office.specs.declared.serving.Serving.{Serving}
 
--- the settings have the origin, the gate, what is shown in public, and a file
+-- the settings consist of the given origin, gate and file, and of what is shown in public
 abbrev pub IsGivenBy : Serving → Option GateFiles → Option FileNumbers → ServerSettingsEntry → Type 0
 IsGivenBy serving gate_files numbers settings =
     (settings ≡ settings_with (origin_setting serving.origin) (option_map gate_at gate_files) (public_in serving) settings.file settings.whole) × IfSome numbers (λ known. settings.file ≡ known)

@@ -1,4 +1,4 @@
--- The path at which a served office is copied.
+-- The path to which a served office is copied.
 use Rattle.std.specs.Prelude.{◌==◌, List, [], if◌then◌else◌, length, unwrap_or, ℕ}
 use Rattle.std.specs.Path.{path_join, path_parent}
 

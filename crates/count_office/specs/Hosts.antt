@@ -14,11 +14,11 @@ pub record CodesEntry : Type 0 where
 abbrev pub codes_entry : Codes → CodesEntry
 codes_entry held = record { holders = holders_of held; office = office_of held }
 
--- the codes in the file at each path, or why it has none, as far as is known
+-- the codes in the file at each path, or why it contains none, if known
 abbrev pub CodeFiles : Type 0
 CodeFiles = List ℕ → Option (Result CodesEntry CodesFault)
 
--- What was read from a file is its contents, as far as they are known; or an allocation failed.
+-- What was read from a file is what it contains, if that is known; or an allocation failed.
 abbrev pub IsReadAs : Option (Result CodesEntry CodesFault) → Result Codes CodesError → Type 0
 IsReadAs None result = ⊤
 IsReadAs (Some known) (Ok own) = known ≡ Ok (codes_entry own)

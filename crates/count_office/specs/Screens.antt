@@ -1,7 +1,7 @@
 -- What is shown on a terminal for a text that may come from anyone.
 use Rattle.std.specs.Prelude.{ℕ, List, [], ◌∷◌, ◌==◌, ◌||◌, ◌&&◌, nat_le, Bool, not, if◌then◌else◌}
 
--- a byte is in this range, inclusive
+-- a byte is in the given range, inclusive
 abbrev pub is_from : ℕ → ℕ → ℕ → Bool
 is_from low high b = nat_le low b && nat_le b high
 
@@ -25,7 +25,7 @@ unfoldable pub masked : ℕ → ℕ → List ℕ → List ℕ
 masked first second [] = []
 masked first second (b ∷ bs) = shown_byte first second b ∷ masked second b bs
 
--- the last two bytes after some bytes that follow these two
+-- the last two bytes after the given bytes are appended to the given two
 unfoldable pub last_two : ℕ → ℕ → List ℕ → ℕ × ℕ
 last_two first second [] = (first, second)
 last_two first second (b ∷ bs) = last_two second b bs

@@ -42,7 +42,7 @@ use Rattle.count_office.specs.declared.serving.ServeSettings.{ServeSettings}
 
 -- ---- the settings of the office
 
--- a gate with these codes, with the page on which clerks key, and with the console
+-- a gate with the given codes, the page on which clerks key, and the console
 abbrev pub gate_with : Codes → PageEntry → PageEntry → GateEntry
 gate_with own page console = record { holders = holders_of own; page = page; office = office_of own; console = console }
 
@@ -50,13 +50,13 @@ gate_with own page console = record { holders = holders_of own; page = page; off
 abbrev pub page_with : List ℕ → List ℕ → PageEntry
 page_with text policy = record { text = text; policy = policy }
 
--- the gate of these files
+-- the gate made from the given files
 abbrev pub gate_at : GateFiles → GateEntry
 gate_at gate_files =
     gate_with gate_files.codes (page_with (string_bytes gate_files.page) (string_bytes gate_files.policy))
     (page_with (string_bytes gate_files.console) (string_bytes gate_files.console_policy))
 
--- The gate: none if no file of codes is named; otherwise the codes that were read at its path, the page on which clerks key, and the officer's console.
+-- The gate: none if no file of codes is named; otherwise the codes that were read from that file, the page on which clerks key, and the officer's console.
 abbrev pub IsGateFor : CodeFiles → Option (List ℕ) → Option GateEntry → Type 0
 IsGateFor codes_at None gate = gate ≡ None
 IsGateFor codes_at (Some path) gate = (own : Codes) × IsReadAs (codes_at path) (Ok own)
@@ -71,11 +71,11 @@ IsUngated codes_at (Some path) why = IsReadAs (codes_at path) (Err why)
 abbrev pub path_in : Serving → Option (List ℕ)
 path_in serving = option_map (λ path. path.now) serving.codes
 
--- what is shown in public under a title: the page for the screen in the hall is always the same
+-- what is shown in public under a given title; the page for the screen in the hall is always the same
 abbrev pub public_with : List ℕ → PublicEntry
 public_with title = record { title = title; screen = page_with screen_text screen_policy }
 
--- what is shown in public, given these texts
+-- what is shown in public, made from the given texts
 abbrev pub public_at : PublicTexts → PublicEntry
 public_at texts = record { title = texts.title.now; screen = page_with (string_bytes texts.screen) (string_bytes texts.policy) }
 
@@ -92,7 +92,7 @@ abbrev pub server_settings_of : ServeSettings → Option Bool → ServerSettings
 server_settings_of settings whole =
     settings_with (origin_setting settings.serving.origin) (option_map gate_at settings.gate_files.now) (option_map public_entry settings.public) settings.file whole
 
--- The settings for the order to serve: the origin that it names, the gate for the file of codes that it names, what it shows in public, and the file of the office.
+-- The settings for the order to serve: the origin that the order names, the gate for the file of codes that it names, what it shows in public, and the file of the office.
 pub record AreSettingsFor (serving : Serving) (codes_at : CodeFiles) (numbers : Option FileNumbers) (settings : ServerSettingsEntry) : Type 0 where
   pub origin : settings.clients.origin ≡ origin_setting serving.origin
   pub gate : IsGateFor codes_at (path_in serving) settings.clients.gate
@@ -101,7 +101,7 @@ pub record AreSettingsFor (serving : Serving) (codes_at : CodeFiles) (numbers : 
 
 -- ---- an open office on a network
 
--- An open office was served on a network, with this result.
+-- An open office was served on a network, with the given result.
 pub record ServesAtNetwork {L S : Type 0} (settings : ServerSettingsEntry) (stream : Stream L) (state_of : Held S → State) (before later : NetworkEntry L) (most : Option ℕ)
     (old new : OfficeValue S) (ends : Result (Unit {0}) ServeError) : Type 0 where
   pub serves : ServesConnections settings stream state_of before later most old new ends
@@ -119,12 +119,12 @@ abbrev pub outcome_by : Result (Unit {0}) ServeError → Result (Unit {0}) Failu
 outcome_by (Ok end) = Ok end
 outcome_by (Err why) = Err (failure_by why)
 
--- on every other port no connection was accepted or closed
+-- no connection was accepted or closed on any other port
 abbrev pub IsElsewhereSame : {L : Type 0} → ℕ → (ℕ → NetworkEntry L) → (ℕ → NetworkEntry L) → Type 0
 IsElsewhereSame port before later = (other : ℕ) → other ≢ port → later other ≡ before other
 
 -- The network on a port couldn't be opened, or an allocation failed: no connection was accepted, and the office is as it was. Or the office was served on that port,
--- with these settings, and on no other port.
+-- with the given settings, and on no other port.
 abbrev pub MayServe : {L S : Type 0} → (ServerSettingsEntry → Type 0) → Stream L → (Held S → State) → ℕ → (ℕ → NetworkEntry L) → (ℕ → NetworkEntry L) → Option ℕ
     → OfficeValue S → OfficeValue S → Result (Unit {0}) Failure → Type 0
 MayServe AreSettings stream state_of port before later most old new outcome =
@@ -134,12 +134,12 @@ MayServe AreSettings stream state_of port before later most old new outcome =
 
 -- ---- the order to serve
 
--- why codes are refused or weren't made
+-- why codes were refused or weren't made
 abbrev pub untaken : CodesError → Page
 untaken read_error.Memory = failed (Office fault.Memory)
 untaken (read_error.Fault why) = codes_page why
 
--- what is printed on the error output for an outcome, and the status: nothing and 0, or the failure and 3
+-- what is printed to the error output for an outcome, and the status: nothing and 0, or the failure and 3
 abbrev pub TellsOutcome : (List ℕ → ℕ → ℕ → Type 0) → Type 0 → ℕ → Result (Unit {0}) Failure → Type 0
 TellsOutcome Tells Quiet status (Ok end) = Quiet × (status ≡ 0)
 TellsOutcome Tells Quiet status (Err failure) = Tells (failed failure).err 3 status
@@ -152,7 +152,7 @@ pub record IsUnread {L S : Type 0} (Tells : List ℕ → ℕ → ℕ → Type 0)
   pub nobody : later ≡ before
   pub same : new ≡ old
 
--- The office couldn't be opened: no connection was accepted, and the database is unchanged. The fault is one with which opening can fail at that state.
+-- The office couldn't be opened: no connection was accepted, and the database is unchanged. The fault is one that opening can fail with in that state.
 pub record IsUnopened {L S : Type 0} (Tells : List ℕ → ℕ → ℕ → Type 0) (status : ℕ) (state_of : Held S → State) (before later : ℕ → NetworkEntry L) (old new : Held S) : Type 0 where
   pub why : Fault
   pub told : Tells (failed (Office why)).err 3 status
@@ -161,13 +161,13 @@ pub record IsUnopened {L S : Type 0} (Tells : List ℕ → ℕ → ℕ → Type 
   pub is : HasCleanDisk (state_of new) → (db : Database) → IsOurs db.schema → RestsAt db (state_of old) → IsFaultOf db why
   pub cause : HasCleanDisk (state_of new) → (db : Database) → RestsAt db (state_of old) → (s : OfficeState) → IsLeftAt s db → FailsBy (state_of old) (state_of new) why
 
--- The office of this connection was opened, at the state in its database, and nothing changed.
+-- The office on the given connection was opened, in the state that its database had, and nothing changed.
 pub record IsOpenedFrom {S : Type 0} (state_of : Held S → State) (conn : Held S) (office : OfficeValue S) : Type 0 where
   pub is_open : office.closed ≡ false
   pub reads : OnlyReads (state_of conn) (state_of office.held)
   pub at : HasCleanDisk (state_of office.held) → (db : Database) → RestsAt db (state_of conn) → (s : OfficeState) → IsLeftAt s db → IsOpenAt s office.closed (state_of office.held)
 
--- The office was opened, but its network couldn't be: no connection was accepted, and the office is as it was when opened.
+-- The office was opened, but its network couldn't be opened: no connection was accepted, and the office is as it was when it was opened.
 pub record IsShut {L S : Type 0} (Tells : List ℕ → ℕ → ℕ → Type 0) (status : ℕ) (state_of : Held S → State) (before later : ℕ → NetworkEntry L) (old new : Held S) : Type 0 where
   pub office : OfficeValue S
   pub opened : IsOpenedFrom state_of old office
@@ -176,8 +176,8 @@ pub record IsShut {L S : Type 0} (Tells : List ℕ → ℕ → ℕ → Type 0) (
   pub nobody : later ≡ before
   pub same : new ≡ office.held
 
--- The office was opened, and served on its network with these settings. If the database had the state after earlier requests, this holds for these requests and those
--- that arrived.
+-- The office was opened, and served on its network with the given settings. If the database had the state after earlier requests, what is kept of those and of the
+-- requests that arrived is as specified.
 pub record IsServed {L S : Type 0} (Tells : List ℕ → ℕ → ℕ → Type 0) (Quiet : Type 0) (status : ℕ) (AreSettings : ServerSettingsEntry → Type 0) (stream : Stream L) (state_of : Held S → State)
     (port : ℕ) (before later : ℕ → NetworkEntry L) (most : Option ℕ) (old new : Held S) : Type 0 where
   pub office : OfficeValue S

@@ -1,4 +1,5 @@
-//! A file of clerks' codes: read, if its permissions let nobody else read it; newly made; or printed as slips, to be cut out.
+//! A file of clerks' codes: an existing one, which is read, or printed as slips to cut out, only if its permissions let nobody else
+//! read it; or a new one.
 
 ghost use Rattle.std.specs.Prelude.{◌≡◌, ◌-◌, ◌^◌, ◌<◌, IfErr, IfOk, None, OnOk, string_bytes};
 ghost use Rattle.codes.specs.Drawing.{IsMadeByDraws, IsUnmadeByDraws};
@@ -24,10 +25,10 @@ use std::random::RandomSource as _;
 use store::Fault;
 use streams::Sink;
 
-/// The maximum size of a file of codes, in bytes: more than one line for each clerk needs.
+/// The maximum size of a file of codes, in bytes. A line for each clerk takes less than that.
 const MAX_FILE: usize = 128 << 10;
 
-/// The permission bits of the group and of others.
+/// The permission bits for the group and for others.
 const RIGHTS_OF_OTHERS: u32 = 0o077;
 
 /// The permissions of a file that only its owner may read and write.
@@ -60,15 +61,15 @@ impl RandomSource for SystemBytes<'_> {
 /// The user id of root.
 const ROOT: u32 = 0;
 
-/// Returns whether a file belongs to this program's user or to root, and nobody else has any permissions on it.
+/// Returns whether a file belongs to this program's user or to root, and nobody else has any permissions for it.
 fn is_its_owners(file: &File) -> io::Result<bool> {
     let found = file.metadata()?;
     let is_own = found.uid() == libc::geteuid() || found.uid() == ROOT;
     Ok(is_own && found.mode() & RIGHTS_OF_OTHERS == 0)
 }
 
-/// Returns the bytes of a file, at most one more than a file of codes may have. Pipes and devices aren't opened, because that may
-/// block.
+/// Returns the bytes of a file, at most one more than a file of codes may have. Doesn't open pipes and devices, because opening
+/// them may block.
 fn bytes_of(rt: &HostRuntime, path: &str) -> Result<Vec<u8>, CodesFault> {
     match fs::metadata(rt, path) {
         Ok(found) if found.is_file() => {}
@@ -89,7 +90,7 @@ fn bytes_of(rt: &HostRuntime, path: &str) -> Result<Vec<u8>, CodesFault> {
     }
 }
 
-/// Reads the codes in a file.
+/// Reads the codes from a file.
 pub fn read_codes(rt: &HostRuntime, path: &str) -> Result<Codes, CodesError> {
     match bytes_of(rt, path) {
         Ok(bytes) => Codes::read(rt.alloc(), bytes.as_slice()),
@@ -97,7 +98,7 @@ pub fn read_codes(rt: &HostRuntime, path: &str) -> Result<Codes, CodesError> {
     }
 }
 
-/// Prints why codes are refused or weren't made, and returns the status.
+/// Prints why codes were refused or weren't made, and returns the status.
 pub fn tell_untaken<E: Sink>(why: CodesError, err: &mut E) -> u8
     requires { E.failed err.old < 2 ^ 64 - 1 }
     ensures { IsErrorTold E.taken E.failed err.old err.new (untaken why).err (untaken why).status result }
@@ -132,7 +133,7 @@ pub fn print_slips<O: Sink, E: Sink>(
     }
 }
 
-/// Writes a text to a new file that only its owner may read. If it can't be written completely, the file is removed.
+/// Writes a text to a new file that only its owner may read. Removes the file if the text can't be written completely.
 fn write_new(rt: &HostRuntime, path: &str, text: &str) -> io::Result<()> {
     let mut file = OpenOptions::new()
         .write(true)
@@ -172,8 +173,8 @@ fn codes_for<D: RandomSource>(
     }
 }
 
-/// Prints that codes were made for this many clerks, and whether one was made for the office. Returns the status: 0, or 3 if the
-/// output fails.
+/// Prints that codes were made for the given number of clerks, and whether one was made for the office. Returns the status: 0,
+/// or 3 if the output fails.
 fn tell_made<O: Sink, E: Sink>(with_office: bool, count: u32, out: &mut O, err: &mut E) -> u8
     requires out { O.failed out.old < 2 ^ 64 - 1 }
     requires err { E.failed err.old < 2 ^ 64 - 1 }
@@ -194,8 +195,8 @@ pub struct NewCodes<'a> {
     pub with_office: bool,
 }
 
-/// Writes a new file of codes, and prints how many clerks it is for, or why there is none. Returns the status: 0; 1 for a codes
-/// fault; 3 if an allocation or an output failed. Never overwrites a file.
+/// Writes a new file of codes, and prints how many clerks it is for, or why it wasn't made. Returns the status: 0; 1 for a
+/// codes fault; 3 if an allocation or an output failed. Never overwrites a file.
 pub fn make_codes_file<O: Sink, E: Sink>(
     rt: &HostRuntime,
     asked: NewCodes<'_>,

@@ -1,4 +1,4 @@
-//! Copying an office to new files on this machine, either an office opened by an order or one that is being served.
+//! Copying an office to new files on this machine: an office opened by an order, or one that is being served.
 
 ghost use Rattle.std.specs.Prelude.{◌≡◌, ◌-◌, ◌^◌, ◌<◌, IsSomeAnd};
 ghost use Rattle.sqlite.specs.Closing.{IsCopied};
@@ -52,7 +52,7 @@ pub fn copy<S: Alter, O: Sink, E: Sink>(
     }
 }
 
-/// Returns the failure to print if a copy can't be made. Running out of memory is reported as such.
+/// Returns the failure to print if a copy can't be made. An out-of-memory error is reported as such.
 pub fn failure_of(error: sqlite::Error) -> Failure {
     match fault_of(error) {
         Fault::Memory => Failure::Office(Fault::Memory),
@@ -60,7 +60,7 @@ pub fn failure_of(error: sqlite::Error) -> Failure {
     }
 }
 
-/// Returns why the copy must not be started in the files that were made for it; `None` if it may. Either another program has
+/// Returns why the copy must not be written to the files that were made for it; `None` if it may be. Either another program has
 /// since made an office in them, which is left there; or the files can't be examined.
 pub fn why_not_begun(rt: &HostRuntime, new_file: &NewFile) -> Option<Failure> {
     match new_file.hold_none(rt) {
@@ -73,8 +73,8 @@ pub fn why_not_begun(rt: &HostRuntime, new_file: &NewFile) -> Option<Failure> {
     }
 }
 
-/// Closes the files that were made for a copy, according to what is known of their contents. If no copy is reported, they are
-/// removed while they are still locked. With status 0, the database file alone is the copy.
+/// Closes the files that were made for a copy, depending on what is known about their contents. If no copy is reported, removes
+/// them while they are still locked. With status 0, the database file alone is the copy.
 pub fn finish<D: Disk + Drop, E: Sink>(
     rt: &HostRuntime,
     new_file: &NewFile,

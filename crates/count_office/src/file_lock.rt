@@ -1,9 +1,9 @@
 //! A database file that this program locks before `sqlite` opens it, and keeps locked until it is closed.
 //!
 //! `sqlite` checks that a file is the one at its path before it takes its own lock, but not again afterwards. In between,
-//! another program that created the file, but no office in it, may remove it: `sqlite` would then carry on in a file without a
-//! path. So each order first takes a lock of its own, and checks the path afterwards. A program that removes a file holds that
-//! lock too.
+//! another program that created the file, but no office in it, may remove it. `sqlite` would then continue to use a file
+//! without a path. So each order first takes its own lock, and then checks the path. A program that removes a file also holds
+//! that lock.
 
 use os::RangeLock;
 use std::fs::{self, File, OpenOptions};
@@ -15,7 +15,7 @@ use std::os::unix::fs::{MetadataExt, OpenOptionsExt};
 const LOCKED: u64 = (1 << 30) + 512;
 
 /// The highest descriptor of the standard streams. Files that `sqlite` opens never get such a descriptor: one of the streams
-/// may have been closed, and output to it would be written into the file.
+/// may have been closed, and output to it would be written to the file.
 const LAST_STREAM: i32 = 2;
 
 /// The file of a database, locked by this program.
@@ -25,10 +25,10 @@ pub struct FileLock {
 }
 
 impl FileLock {
-    /// Locks the file at a path. Fails if it can't be locked, or if another program has locked it; or if the path no longer
-    /// leads to the file, or another path leads to it too.
+    /// Locks the file at a path. Fails if the file can't be locked, if another program has locked it, if the path no longer
+    /// leads to the file, or if another path leads to it too.
     pub fn take(rt: &HostRuntime, path: &str) -> io::Result<FileLock> {
-        // Pipes and devices aren't opened, because that may block.
+        // Pipes and devices aren't opened, because opening them may block.
         if !fs::symlink_metadata(rt, path)?.is_file() {
             return Err(ErrorKind::Unsupported.into());
         }

@@ -1,7 +1,7 @@
 //! Whether the files of an office that is being served are still at their paths.
 //!
 //! `sqlite` writes through the descriptors that it opened. If a file is removed or replaced, `sqlite` continues to write to a
-//! file without a path, and everything confirmed from then on is lost when the program ends. The descriptors don't reveal this,
+//! file without a path, and everything confirmed after that is lost when the program ends. The descriptors don't reveal this,
 //! so the paths are checked.
 //!
 //! Neither file gets shorter while the office is served. A checkpoint writes pages into the database, and the log is then
@@ -48,14 +48,14 @@ fn seen_at(rt: &HostRuntime, path: &str) -> Option<Seen> {
     })
 }
 
-/// Returns whether a file is the one seen before, and wasn't truncated.
+/// Returns whether a file is the one seen before and hasn't been truncated.
 fn continues(before: Seen, now: Seen) -> bool
     ensures { result ≡ true → (now.device ≡ before.device) × (now.inode ≡ before.inode) × (before.length ≤ now.length) }
 {
     now.device == before.device && now.inode == before.inode && now.length >= before.length
 }
 
-/// Checks again whether the file at a path is the one last seen there, and wasn't truncated.
+/// Checks again whether the file at a path is the one last seen there and hasn't been truncated.
 fn is_still_at(rt: &HostRuntime, path: &str, last: &Cell<Seen>) -> bool {
     let Some(now) = seen_at(rt, path) else {
         return false;
@@ -68,7 +68,8 @@ fn is_still_at(rt: &HostRuntime, path: &str, last: &Cell<Seen>) -> bool {
 }
 
 impl<'a> FileWatch<'a> {
-    /// Returns a watch on the files of an office that was just opened; `None` if they no longer exist, or aren't the locked ones.
+    /// Returns a watch on the files of an office that has just been opened; `None` if the files no longer exist or aren't the
+    /// locked ones.
     pub fn of(rt: &HostRuntime, found: &'a PathState, lock: &FileLock) -> Option<FileWatch<'a>> {
         let database = seen_at(rt, found.database())?;
         let log = seen_at(rt, found.log())?;
@@ -89,8 +90,8 @@ impl<'a> FileWatch<'a> {
         self.found.database()
     }
 
-    /// Returns whether both files are still at their paths, are the same, and haven't been truncated since the last check. The
-    /// first time that they aren't, prints a line on the error output.
+    /// Returns whether both files are still at their paths, are the same files, and haven't been truncated since the last
+    /// check. The first time that this isn't so, prints a line to the error output.
     pub fn is_whole(&self, rt: &HostRuntime) -> bool {
         let is_whole = is_still_at(rt, self.found.database(), &self.database)
             && is_still_at(rt, self.found.log(), &self.log);

@@ -45,7 +45,7 @@ pub fn read_gate_files<H: Host>(
     }))
 }
 
-/// Returns the gate with these codes and pages; `None` if there are none.
+/// Returns the gate with the given codes and pages; `None` if there are none.
 pub fn gate_of(gate_files: &Option<GateFiles>) -> Option<Gate<'_>>
     ensures { option_map gate_entry result ≡ option_map gate_at gate_files.now }
 {

@@ -1,8 +1,8 @@
 //! What serving an office requires of a machine: its files of clerks' codes, its network, and the identity of the office's file.
 //!
-//! `serving.rt` serves on any host, and uses nothing else of the machine except a connection and the error output. The machine
-//! that the program runs on is a host (`localhost.rt`) about which nothing is known. The contracts of `serving.rt` also hold on
-//! a host for which it is known what its files contain and what arrived on each port.
+//! `serving.rt` serves on any host, and uses nothing else on the machine except a connection and the error output. The machine
+//! that the program runs on is a host (`localhost.rt`) about which nothing is known. The contracts in `serving.rt` also hold on
+//! a host for which it is known what its files contain and what has arrived on each port.
 
 ghost use Rattle.std.specs.Prelude.{◌≡◌, ◌≢◌, IfOk, IfSome, Option, ℕ};
 ghost use Rattle.connections.specs.Tables.{NetworkEntry};
@@ -28,7 +28,7 @@ pub trait Host {
 
     type Side: ServedFile;
 
-    /// The network on each port, before it is opened and after it is closed, as far as is known.
+    /// The network on each port, before it is opened and after it is closed, as far as it is known.
     ghost known: { Self → ℕ → NetworkEntry Self.Sockets.Stream };
 
     /// The codes in the file at each path, as far as they are known.

@@ -1,4 +1,4 @@
-//! This machine as a host: a port on its loopback addresses, and the socket next to the database that is served.
+//! This machine as a host: a port at its loopback addresses, and the socket next to the database that is served.
 //!
 //! No contract can say what a socket or a file contains, so nothing is promised here. `serving.rt` states what is served on any
 //! host.
@@ -24,8 +24,7 @@ use std::io;
 use std::io::{ErrorKind, Write};
 use store::Fault;
 
-/// This machine, the database that is served, the socket next to it, and the standard streams that are held open in the
-/// meantime.
+/// This machine, the database that is served, the socket next to it, and the standard streams that are held open while serving.
 #[derive(Drop)]
 pub struct Localhost<'a> {
     place: LockedDatabase<'a>,
@@ -33,8 +32,9 @@ pub struct Localhost<'a> {
     streams: Option<Vec<File>>,
 }
 
-/// Listens on a port of this machine's loopback addresses and, if there is one, on the socket for orders next to the database.
-/// Fails if either address is in use. No contract can say which addresses are bound; `tools/try both-addresses` tests it.
+/// Listens on a port at this machine's loopback addresses and, if there is one, on the socket for orders next to the database.
+/// Fails if the port is in use at either address. No contract can say which addresses are bound; `tools/try both-addresses`
+/// tests it.
 fn listen<'a>(
     rt: &'a HostRuntime,
     port: u32,
@@ -56,14 +56,14 @@ fn listening_failure(error: &io::Error) -> Failure {
     }
 }
 
-/// Prints on the error output that there is no socket for orders. The office is served even if this can't be printed.
+/// Prints to the error output that there is no socket for orders. The office is served even if this can't be printed.
 fn warn_no_socket(rt: &HostRuntime, error: &io::Error) {
     let mut stderr = rt.stderr();
     let why = reason_of(error);
     let _ = writeln!(stderr, "no socket for orders next to the database: {why}");
 }
 
-/// Returns numbers separated by commas.
+/// Returns the numbers, separated by commas.
 fn list_of(alloc: Global, numbers: &[u32]) -> Result<String, AllocError> {
     let mut list = String::new(alloc);
     for number in numbers {
@@ -75,7 +75,7 @@ fn list_of(alloc: Global, numbers: &[u32]) -> Result<String, AllocError> {
     Ok(list)
 }
 
-/// Prints a line on standard error if clerks' codes are weak. The office is served even if this can't be printed.
+/// Prints a line to standard error if any clerks' codes are weak. The office is served even if this can't be printed.
 fn warn_of_weak(rt: &HostRuntime, codes: &Codes) {
     let weak = codes.weak_clerks();
     if weak.is_empty() {
@@ -124,8 +124,8 @@ impl<'a> Localhost<'a> {
         }
     }
 
-    /// Creates the order socket next to the database. If that fails, prints a line on the error output; orders can't be sent to
-    /// the server then.
+    /// Creates the order socket next to the database. If that fails, prints a line to the error output; then no orders can be
+    /// sent to the server.
     fn listen_for_orders(&mut self) -> Option<UnixListener> {
         let rt = self.place.rt;
         match OrderSocket::listen(rt, self.place.found.database()) {

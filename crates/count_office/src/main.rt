@@ -1,6 +1,6 @@
 //! The program `count-office`: it parses its words as an order, and performs the order on the database DB.
 //!
-//! The crate `desk` parses the words and performs the order. This crate supplies the file that DB names, the files that the
+//! The crate `desk` parses the words and performs the order. This crate provides the file that DB names, the files that the
 //! order or a script names, and the two standard outputs.
 //!
 //! `main` opens the outputs, [`run`] reads the words, and [`follow_words`] parses them as an order. `perform_with_retries` in
@@ -81,8 +81,8 @@ use std::{env, io};
 use store::Fault;
 use streams::{Counted, Sink};
 
-/// A locked database: its path as given, what exists there, and its file; and what was already read of the order's files, if
-/// anything.
+/// A locked database: its path as given, what exists there, and its file; and those of the order's files that have already been
+/// read, if any.
 #[derive(Clone, Copy)]
 pub struct LockedDatabase<'a> {
     pub rt: &'a HostRuntime,
@@ -92,7 +92,7 @@ pub struct LockedDatabase<'a> {
     pub brought: &'a Option<OrderFiles>,
 }
 
-/// Returns the words from DB on.
+/// Returns the program's words, from DB on.
 fn given_words(rt: &HostRuntime) -> Result<Vec<String>, WordsFault> {
     let all = match env::args(rt) {
         Ok(all) => all,
@@ -112,7 +112,7 @@ fn not_text(alloc: Global) -> WordsFault {
     }
 }
 
-/// Returns whether a person can see the error output but not the replies to the records of a file.
+/// Returns whether a person can see the error output, but not the replies to the records in a file.
 fn wants_progress(rt: &HostRuntime, task: &Task<'_>) -> bool {
     task.file().is_some() && rt.stderr().is_terminal() && !rt.stdout().is_terminal()
 }
@@ -203,8 +203,8 @@ fn dispatch_order<H: Host, S: Alter, O: Sink, E: Sink>(
     }
 }
 
-/// Prints the journal of the office after replaying it in an empty office in memory. Only reads the office. Nothing is assumed
-/// about that memory: if the status is 0, replaying what was printed produces exactly this office.
+/// Prints the journal of the office, after replaying it in an empty office in memory. Only reads the office. Nothing is assumed
+/// about that memory. If the status is 0, replaying what was printed produces exactly this office.
 fn journal<S: Alter, O: Sink, E: Sink>(
     rt: &HostRuntime,
     mut conn: Connection<S>,
@@ -236,7 +236,7 @@ fn is_busy(error: &sqlite::Error) -> bool {
 }
 
 /// Copies the log into the database file and returns both files. DB alone is then the office, even after a stop. If copying
-/// fails, everything that was answered is still in the log.
+/// fails, the log still contains everything that was answered.
 fn close<D: Disk + Drop>(conn: Connection<FileStore<D>>) -> Option<Files<D>>
     ensures copied { IfSome result (λ files. AreClean D.Disk files.log files.db → IsCopied conn files) }
 {
@@ -249,7 +249,7 @@ fn close<D: Disk + Drop>(conn: Connection<FileStore<D>>) -> Option<Files<D>>
     }
 }
 
-/// Does what the words, starting with DB, ask for, and returns the status.
+/// Does what the given words, starting with DB, ask for, and returns the status.
 fn follow_words<O: Sink, E: Sink>(rt: &HostRuntime, words: &[&str], out: &mut O, err: &mut E) -> u8
     requires out { O.failed out.old < 2 ^ 64 - 1 }
     requires err { E.failed err.old < 2 ^ 64 - 1 }
@@ -285,7 +285,8 @@ fn follow_words<O: Sink, E: Sink>(rt: &HostRuntime, words: &[&str], out: &mut O,
     }
 }
 
-/// Prints the help of an order. A word that isn't the name of an order is taken as DB, and the help of all orders is printed.
+/// Prints the help for an order. If the word isn't the name of an order, it is read as DB, and the help for all orders is
+/// printed.
 fn tell_help_of<O: Sink, E: Sink>(rt: &HostRuntime, name: &str, out: &mut O, err: &mut E) -> u8
     requires out { O.failed out.old < 2 ^ 64 - 1 }
     requires err { E.failed err.old < 2 ^ 64 - 1 }
@@ -299,8 +300,8 @@ fn tell_help_of<O: Sink, E: Sink>(rt: &HostRuntime, name: &str, out: &mut O, err
     }
 }
 
-/// Does what the program's words ask for, and returns the status. Help (including the help of a single order) and the version
-/// are also printed without a database.
+/// Does what the program's words ask for, and returns the status. Help (including the help for a single order) and the version
+/// are printed even without a database.
 fn run<O: Sink, E: Sink>(rt: &HostRuntime, out: &mut O, err: &mut E) -> u8
     requires out { O.failed out.old < 2 ^ 64 - 1 }
     requires err { E.failed err.old < 2 ^ 64 - 1 }

@@ -1,4 +1,4 @@
-//! The file of a copy. It is created only if nothing has its name yet, and removed again if no copy results.
+//! The file of a copy. It is created only if nothing has that name yet, and removed again if no copy results.
 
 use crate::file_lock::FileLock;
 use crate::path_state::{LOG_ENDINGS, MIN_OFFICE, RIGHTS, is_no_file, length_at};
@@ -7,7 +7,7 @@ use std::fs;
 use std::io::{self, ErrorKind};
 use store::Fault;
 
-/// The file of a copy, which this program created and keeps locked; and its log, which `sqlite` creates with the file's
+/// The file of a copy, which this program has created and keeps locked; and its log, which `sqlite` creates with the file's
 /// permissions when it opens the file.
 #[derive(Drop)]
 pub struct NewFile {
@@ -16,7 +16,7 @@ pub struct NewFile {
     lock: FileLock,
 }
 
-/// Returns the reason why a file wasn't created.
+/// Returns why a file wasn't created.
 fn failure_of(error: &io::Error) -> Failure {
     match error.kind() {
         ErrorKind::AlreadyExists => Failure::CopyTaken,
@@ -25,7 +25,7 @@ fn failure_of(error: &io::Error) -> Failure {
     }
 }
 
-/// Checks that nothing, not even a link, has the name of a log of a database at a path.
+/// Checks that nothing, not even a link, has the name of a log for the database at a path.
 fn has_no_log(rt: &HostRuntime, path: &str, ending: &str) -> Result<(), Failure> {
     let Ok(log) = format!(in rt.alloc(); "{path}{ending}") else {
         return Err(Failure::Office(Fault::Memory));
@@ -39,8 +39,8 @@ fn has_no_log(rt: &HostRuntime, path: &str, ending: &str) -> Result<(), Failure>
 
 impl NewFile {
     /// Creates the file of a copy at a path where nothing exists, not even a link, with permissions for its owner only. If
-    /// something already exists (`CopyTaken`), or the file can't be created, nothing is left behind. A name that `sqlite`
-    /// treats as a log, or not as a file, is refused.
+    /// something already exists (`CopyTaken`), or the file can't be created, nothing is left behind. Refuses a name that
+    /// `sqlite` treats as a log, or as something other than a file.
     pub fn make(rt: &HostRuntime, path: &str) -> Result<NewFile, Failure> {
         if is_no_file(path) || LOG_ENDINGS.iter().any(|ending| path.ends_with(*ending)) {
             return Err(Failure::CopyFailed);
@@ -62,8 +62,8 @@ impl NewFile {
         })
     }
 
-    /// Returns whether the two files together are too short for an office, as `sqlite` creates them on opening: if so, no other
-    /// program has made an office in them. Fails if their length can't be determined.
+    /// Returns whether the two files together are too short for an office, as they are when `sqlite` has just opened them. If
+    /// so, no other program has made an office in them. Fails if their length can't be determined.
     pub fn hold_none(&self, rt: &HostRuntime) -> io::Result<bool> {
         let database = length_at(rt, self.database.as_str())?.unwrap_or(0);
         let log = length_at(rt, self.log.as_str())?.unwrap_or(0);
@@ -76,7 +76,7 @@ impl NewFile {
         let _ = fs::remove_file(rt, self.database.as_str());
     }
 
-    /// Removes both files if together they are known to be too short for an office.
+    /// Removes both files if they are known to be too short, together, for an office.
     pub fn clear(&self, rt: &HostRuntime) {
         if matches!(self.hold_none(rt), Ok(true)) {
             self.remove(rt);

@@ -1,24 +1,24 @@
 //! Lines on the error output for the person who gave an order, in addition to what the order prints. The order is performed
-//! even if they can't be written.
+//! even if these lines can't be written.
 
 use std::fs;
 use std::io::{IsTerminal, Write};
 use std::os::unix::fs::MetadataExt;
 
-/// The permissions of the group and of others to read or write a file.
+/// The permission bits that let the group and others read or write a file.
 const RIGHTS_OF_OTHERS: u32 = 0o066;
 
-/// What holds the lock on a database and prevents other orders from opening it.
+/// What has locked a database and prevents other orders from opening it.
 #[derive(Clone, Copy)]
 pub enum LockHolder {
     /// Another order of this program, which may be `serve`.
     Order,
-    /// Another program, with SQLite's locks.
+    /// Another program, using SQLite's locks.
     Program,
 }
 
 impl LockHolder {
-    /// Returns the text that describes the holder, to follow a database's path and a colon.
+    /// Returns the text that describes the holder; it follows a database's path and a colon.
     fn text(self) -> &'static str {
         match self {
             LockHolder::Order => "another order holds it",
@@ -36,7 +36,7 @@ pub fn warn_waiting(rt: &HostRuntime, path: &str, holder: LockHolder) {
     }
 }
 
-/// Prints what an order waited for in vain.
+/// Prints what an order has waited for in vain.
 pub fn warn_waited(rt: &HostRuntime, path: &str, holder: LockHolder) {
     let mut stderr = rt.stderr();
     let why = holder.text();
@@ -57,7 +57,8 @@ fn is_open_to_others(rt: &HostRuntime, path: &str) -> bool {
     fs::metadata(rt, path).is_ok_and(|found| found.mode() & RIGHTS_OF_OTHERS != 0)
 }
 
-/// Prints, if the error output is a terminal, that the permissions of a database or its log let other users read or write it, if they do.
+/// If the permissions of a database or its log let other users read or write it, prints a line that says so, provided that the
+/// error output is a terminal.
 pub fn warn_if_open_to_others(rt: &HostRuntime, path: &str) {
     let mut stderr = rt.stderr();
     if !stderr.is_terminal() {

@@ -1,4 +1,4 @@
-//! An order on a database that another program serves. The order is sent to that program, and the reply is printed as it
+//! An order for a database that another program serves. The order is sent to that program, and the reply is printed as it
 //! arrives.
 
 ghost use Rattle.std.specs.Prelude.{◌≡◌, ◌≢◌, ◌-◌, ◌^◌, ◌<◌, ◌≤◌, Err, IfOk, IfSome, Ok, OnErr, length, true};
@@ -20,10 +20,10 @@ use std::{env, fs};
 use store::Fault;
 use streams::{Sink, put_all};
 
-/// The maximum number of bytes of a frame to read at once.
+/// The maximum number of bytes to read from a frame at once.
 const CHUNK: usize = 8192;
 
-/// Returns a word or a file as a part of a message; `None` if it is longer than a message may be.
+/// Returns a word or a file as part of a message; `None` if it is longer than a message may be.
 fn piece_of(part: &OrderPart) -> Option<MessagePart<'_>>
     ensures { IfSome result (λ piece. PieceFits (message_part_entry piece)) }
 {
@@ -41,7 +41,7 @@ fn piece_of(part: &OrderPart) -> Option<MessagePart<'_>>
     }
 }
 
-/// Returns words or files as parts of a message; `None` if one of them is longer than a message may be, or if there are too
+/// Returns the words or files as parts of a message; `None` if one of them is longer than a message may be, or if there are too
 /// many.
 fn fitting_parts(
     alloc: Global,
@@ -62,7 +62,7 @@ fn fitting_parts(
     Ok(Some(pieces))
 }
 
-/// Returns words or files as parts of a message, or why they can't be sent.
+/// Returns the words or files as parts of a message, or why they can't be sent.
 fn pieces_of(alloc: Global, parts: &[OrderPart]) -> Result<Vec<MessagePart<'_>>, Fault>
     ensures { IfOk result (λ pieces. PiecesFit (message_part_entries pieces.items)) }
 {
@@ -73,7 +73,7 @@ fn pieces_of(alloc: Global, parts: &[OrderPart]) -> Result<Vec<MessagePart<'_>>,
     }
 }
 
-/// Returns the message of an order on the database at a path, or why there is none.
+/// Returns the message with an order for the database at a path, or why there is none.
 fn message_of(
     rt: &HostRuntime,
     database: &str,
@@ -123,14 +123,14 @@ enum ReplyError {
     Memory,
 }
 
-/// What was received for the two outputs but hasn't been printed yet: for each, the beginning of a line.
+/// What has been received for the two outputs but not printed yet: for each, the beginning of a line.
 #[derive(Drop)]
 struct PartialLines {
     out: Vec<u8>,
     err: Vec<u8>,
 }
 
-/// Returns how many of these bytes make up complete lines.
+/// Returns how many of the given bytes make up complete lines.
 fn whole_lines(bytes: &[u8]) -> usize
     ensures { result ≤ length bytes.now }
 {
@@ -143,8 +143,8 @@ fn whole_lines(bytes: &[u8]) -> usize
     whole
 }
 
-/// Appends bytes to an incomplete line, prints the lines that are now complete, and keeps the rest. So if a reply is cut off,
-/// no partial line is printed.
+/// Appends bytes to an incomplete line, prints the lines that are now complete, and keeps the rest. If a reply is cut off, no
+/// partial line is printed.
 fn print_lines<O: Sink>(line: &mut Vec<u8>, bytes: &[u8], out: &mut O) -> Result<(), ReplyError>
     requires { O.failed out.old < 2 ^ 64 - 1 }
     ensures { result ≢ Err ReplyError.Output → O.failed out.new ≡ O.failed out.old }
@@ -162,7 +162,7 @@ fn print_lines<O: Sink>(line: &mut Vec<u8>, bytes: &[u8], out: &mut O) -> Result
     Ok(())
 }
 
-/// Prints this many bytes as they arrive, line by line.
+/// Prints the given number of bytes as they arrive, line by line.
 fn print_output_frame<O: Sink>(
     stream: &mut UnixStream,
     len: u32,
@@ -187,7 +187,7 @@ fn print_output_frame<O: Sink>(
     Ok(())
 }
 
-/// Prints this many bytes on the error output as they arrive. Returns whether the error output accepted them.
+/// Prints the given number of bytes to the error output as they arrive. Returns whether the error output accepted them.
 fn print_error<E: Sink>(
     stream: &mut UnixStream,
     len: u32,
@@ -206,7 +206,7 @@ fn print_error<E: Sink>(
     }
 }
 
-/// Returns the status of an order from its last frame, after printing the rest of that frame on the error output, along with
+/// Returns the status of an order from its last frame, after printing the rest of that frame to the error output, along with
 /// any incomplete line of either output. If the error output fails, the status is 3.
 fn print_end_frame<O: Sink, E: Sink>(
     stream: &mut UnixStream,
@@ -288,10 +288,11 @@ pub struct OrderReply {
 pub enum Sent {
     /// A server has begun to reply.
     Replying(OrderReply),
-    /// No program serves the database; or the server closed the connection before it had read the whole order, so it can't have
-    /// performed it.
+    /// No program serves the database; or the server closed the connection before it had read the whole order, and so can't
+    /// have performed it.
     Unread,
-    /// The order wasn't sent, for this fault; or the server disconnected after it had read the order, and may have performed it.
+    /// The order wasn't sent, because of this fault; or the server disconnected after it had read the order, and may have
+    /// performed it.
     Failed(Fault),
 }
 
@@ -305,7 +306,7 @@ fn reply_in(mut stream: UnixStream) -> Sent {
     }
 }
 
-/// Sends an order on the database at a path to the program that serves it, and waits for the first frame of the reply.
+/// Sends an order for the database at a path to the program that serves it, and waits for the first frame of the reply.
 pub fn send_order(rt: &HostRuntime, database: &str, order_files: &OrderFiles) -> Sent {
     let Some(mut stream) = order_socket::reach(rt, database) else {
         return Sent::Unread;
@@ -314,7 +315,7 @@ pub fn send_order(rt: &HostRuntime, database: &str, order_files: &OrderFiles) ->
         Ok(message) => message,
         Err(fault) => return Sent::Failed(fault),
     };
-    // Even a server that stops reading may have replied why, so the reply is read in any case.
+    // Even a server that stops reading may have said why in a reply, so the reply is read in any case.
     let _ = send(&mut stream, &message);
     reply_in(stream)
 }

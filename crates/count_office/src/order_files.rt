@@ -1,5 +1,5 @@
-//! The words of an order, and the bytes of the files that it reads. They are read with the permissions and in the directory of
-//! the person who gives the order, before the order is sent to the program that serves the database.
+//! The words of an order, and the bytes of the files that it reads. They are read with the permissions of the person who gives
+//! the order, and in that person's directory, before the order is sent to the program that serves the database.
 
 use desk::{Folder, Job, Order, Task, files_named_in};
 use order_protocol::{MAX_MESSAGE, is_message_len};
@@ -8,7 +8,7 @@ use std::fs::File;
 use std::io::{self, Read};
 use store::Fault;
 
-/// A word of an order; or a file that it names, with its bytes, or without them if it can't be read.
+/// A word of an order; or a file that the order names, with its bytes, or without them if it can't be read.
 #[derive(Drop)]
 pub struct OrderPart {
     pub name: String,
@@ -23,7 +23,7 @@ pub struct OrderFiles {
 }
 
 impl OrderPart {
-    /// Returns whether the whole file was read: if it is longer than a message may be, only a prefix was.
+    /// Returns whether the whole file was read. If the file is longer than a message may be, only a prefix was read.
     fn is_whole(&self) -> bool {
         match &self.bytes {
             Some(bytes) => is_message_len(bytes.len()),
@@ -33,7 +33,7 @@ impl OrderPart {
 }
 
 impl OrderFiles {
-    /// Returns the file at a path, if it was read.
+    /// Returns the file at a path, if it has been read.
     fn file(&self, path: &str) -> Option<&OrderPart> {
         for file in &self.files {
             if file.name.as_str() == path {
@@ -54,7 +54,7 @@ fn bytes_at(rt: &HostRuntime, path: &str) -> Option<Vec<u8>> {
     Some(bytes)
 }
 
-/// Reads the file at a path, unless it was read before.
+/// Reads the file at a path, unless it has been read before.
 fn read_file_once(
     rt: &HostRuntime,
     files: &mut Vec<OrderPart>,
@@ -69,7 +69,7 @@ fn read_file_once(
     Ok(())
 }
 
-/// Returns the paths that the script names. The script is the first of these files.
+/// Returns the paths that the script names. The script is the first of the given files.
 fn named_by(alloc: Global, files: &[OrderPart]) -> Result<Vec<String>, AllocError> {
     match files.first() {
         Some(
@@ -82,7 +82,7 @@ fn named_by(alloc: Global, files: &[OrderPart]) -> Result<Vec<String>, AllocErro
     }
 }
 
-/// Reads the files of an order, each of them once: the order's own file and, if it is a script, also the files that its lines
+/// Reads the files of an order, each of them once: the order's own file and, if that is a script, the files that its lines
 /// name.
 fn files_of(rt: &HostRuntime, order: &Order<'_>) -> Result<Vec<OrderPart>, AllocError> {
     let mut files = Vec::new(rt.alloc());
@@ -123,8 +123,8 @@ fn order_files_of(
     })
 }
 
-/// Reads the parts of an order with these words that are sent to a server. Fails if an allocation fails, or if a file is longer
-/// than a message may be.
+/// Reads those parts of an order, with the given words, that are sent to a server. Fails if an allocation fails, or if a file
+/// is longer than a message may be.
 pub fn read_order_and_files(
     rt: &HostRuntime,
     words: &[&str],
@@ -137,7 +137,7 @@ pub fn read_order_and_files(
     }
 }
 
-/// The files on this machine. A file that was already read isn't opened again, because a pipe can be read only once.
+/// The files on this machine. A file that has already been read isn't opened again, because a pipe can be read only once.
 #[derive(Clone, Copy)]
 pub struct LocalFolder<'a> {
     pub rt: &'a HostRuntime,
@@ -171,7 +171,8 @@ impl<'a> Folder for LocalFolder<'a> {
     }
 }
 
-/// Returns the file at a path as already read, or else opens it; `None` if it couldn't be read or can't be opened.
+/// Returns the file at a path if it has already been read, and otherwise opens it; `None` if it couldn't be read or can't be
+/// opened.
 fn brought_or_opened<'a>(
     rt: &HostRuntime,
     order_files: &'a OrderFiles,

@@ -1,4 +1,4 @@
-//! An order on a database. It is performed on the file, or sent to the program that serves it, or it waits while another
+//! An order for a database. It is performed on the file, or sent to the program that serves it; or it waits while another
 //! program has locked the file.
 
 ghost use Rattle.std.specs.Prelude.{◌≡◌, ◌-◌, ◌^◌, ◌<◌, OnErr, Some};
@@ -21,13 +21,13 @@ use store::Fault;
 use store::fault::fault_of;
 use streams::Sink;
 
-/// The maximum number of pauses between attempts at an order whose file is locked. They add up to ten seconds.
+/// The maximum number of pauses between attempts to perform an order whose file is locked. They add up to ten seconds.
 const PAUSES: u32 = 1000;
 
 /// The duration of a pause, in milliseconds.
 const PAUSE: u64 = 10;
 
-/// After this many pauses, the program tells a person at a terminal what the order is waiting for.
+/// The number of pauses after which the program tells a person at a terminal what the order is waiting for.
 const PAUSES_UNSEEN: u32 = 50;
 
 /// An order, its words starting with DB, and the path of its database.
@@ -39,11 +39,11 @@ pub struct OrderRun<'a> {
     pub order: &'a Order<'a>,
 }
 
-/// Opens the locked database at a path, performs an order on it, and closes it. If the order failed, nothing is left that
-/// didn't exist before. Returns an error if another program has the file open; nothing has been printed then.
+/// Opens the locked database at a path, performs an order on it, and closes it. If the order fails, nothing is left that didn't
+/// exist before. Returns an error if another program has the file open; nothing has been printed then.
 ///
 /// Two phases of writing depend on the contract of `sqlite`: `Connection::open_from` creates the log if it doesn't exist, and
-/// recovers what it contains; and `close` copies the log. The contract of `perform` covers everything in between.
+/// recovers what it contains; `close` copies the log. The contract of `perform` covers everything in between.
 fn open_and_perform<O: Sink, E: Sink>(
     place: LockedDatabase<'_>,
     order: &Order<'_>,
@@ -91,7 +91,7 @@ fn refuse_log<E: Sink>(rt: &HostRuntime, path: &str, err: &mut E) -> u8
 }
 
 /// Returns why an order must not open anything at a path; `None` if it may. Only `init` creates an office, and only if no log
-/// contains anything; any other order finds no office there.
+/// contains anything; for any other order, there is no office at the path.
 fn why_unopened(kind: PathKind, order: &Order<'_>) -> Option<Fault>
     ensures alone { kind ≡ PathKind.LogAlone → result ≡ Some Fault.WrongDatabase }
     ensures unseen { kind ≡ PathKind.LogUnreadable → result ≡ Some Fault.Store }
@@ -123,7 +123,7 @@ fn print_watched<O: Sink, E: Sink>(
     }
 }
 
-/// Reads the parts of an order that are sent to a server, unless they were read before, or no program serves the database.
+/// Reads the parts of an order that are sent to a server, unless they have been read before or no program serves the database.
 fn read_order_files(
     request: OrderRun<'_>,
     database: &str,
@@ -135,9 +135,9 @@ fn read_order_files(
     Ok(())
 }
 
-/// Sends an order to the program that has locked its database, and returns the status. The order's files are read before the
-/// connection is made, however long that takes. Returns an error if the program doesn't serve the database, or no longer does;
-/// nothing has been printed then.
+/// Sends an order to the program that has locked the order's database, and returns the status. The order's files are read
+/// before the connection is made, however long that takes. Returns an error if the program doesn't serve the database, or no
+/// longer does; nothing has been printed then.
 fn hand_over<O: Sink, E: Sink>(
     request: OrderRun<'_>,
     database: &str,
@@ -162,7 +162,7 @@ fn hand_over<O: Sink, E: Sink>(
     }
 }
 
-/// Returns whether this error means that another order has locked the database, or has just created it.
+/// Returns whether the error means that another order has locked the database or has just created it.
 fn is_locked_by_other(rt: &HostRuntime, database: &str, error: &io::Error) -> bool {
     match error.kind() {
         ErrorKind::WouldBlock => true,
@@ -252,7 +252,8 @@ fn attempt<O: Sink, E: Sink>(
 }
 
 /// Performs an order on the database at a path, and returns its status. While another program has locked the file and doesn't
-/// serve it, the order waits, for at most ten seconds. After that, prints fault 102 and what has locked the file.
+/// serve it, the order waits, for at most ten seconds. After that, the order fails with fault 102, and the program prints what
+/// has locked the file.
 pub fn perform_with_retries<O: Sink, E: Sink>(request: OrderRun<'_>, out: &mut O, err: &mut E) -> u8
     requires out { O.failed out.old < 2 ^ 64 - 1 }
     requires err { E.failed err.old < 2 ^ 64 - 1 }

@@ -1,7 +1,7 @@
 //! The socket next to a database, through which orders are sent to the program that serves the office.
 //!
-//! Its name is the name of the database followed by `-serve`, and only the owner of the database may use it. A program that
-//! serves a database has locked it (`file_lock.rt`), so a socket that already exists was left behind by a stop.
+//! The socket's name is the database's name followed by `-serve`, and only the owner of the database may use the socket. A
+//! program that serves a database has locked it (`file_lock.rt`), so a socket that already exists was left behind by a stop.
 
 use mio::net::UnixListener;
 use std::fs::{self, File, Files};
@@ -11,10 +11,10 @@ use std::os::fd::{AsFd, AsRawFd};
 use std::os::unix::fs::{FileTypeExt, MetadataExt};
 use std::os::unix::net::{self, SocketAddr, UnixStream};
 
-/// The suffix that is appended to the name of a database to form that of its socket.
+/// The suffix that is appended to a database's name to form the name of its socket.
 const ENDING: &str = "-serve";
 
-/// The permissions of the socket, which are for its owner only.
+/// The permissions of the socket: only its owner may use it.
 const RIGHTS: u32 = 0o600;
 
 /// The permission bits of a mode.
@@ -27,8 +27,7 @@ const LAST_STREAM: i32 = 2;
 const QUEUE: i32 = 128;
 
 /// Returns whether a database belongs to this program's user. If root made a socket next to another user's database, only root
-/// could use it; and if the owner of the database could use it too, that user's orders would be performed with root's
-/// permissions.
+/// could use it; if that user could use it too, the user's orders would be performed with root's permissions.
 fn is_own(rt: &HostRuntime, database: &str) -> io::Result<bool> {
     Ok(fs::metadata(rt, database)?.uid() == libc::geteuid())
 }
@@ -39,7 +38,7 @@ pub struct OrderSocket {
     path: String,
 }
 
-/// Returns the result of the system call that has just returned this status.
+/// Returns the result of the system call that has just returned the given status.
 fn checked(status: i32) -> io::Result<()> {
     match status {
         0 => Ok(()),
@@ -47,7 +46,7 @@ fn checked(status: i32) -> io::Result<()> {
     }
 }
 
-/// Returns the path of the socket of a database.
+/// Returns the path of a database's socket.
 fn path_of(rt: &HostRuntime, database: &str) -> io::Result<String> {
     Ok(format!(in rt.alloc(); "{database}{ENDING}")?)
 }
@@ -82,8 +81,8 @@ pub fn reason_of(error: &io::Error) -> &'static str {
 impl OrderSocket {
     /// Creates the socket of a locked database, and listens on it. A socket left behind by a stop is removed first.
     ///
-    /// The file of a socket gets the permissions that the socket's descriptor has when it is bound, and no client can connect
-    /// before the socket listens.
+    /// A socket's file gets the permissions that its descriptor has when the socket is bound, and no client can connect before
+    /// the socket listens.
     pub fn listen(rt: &HostRuntime, database: &str) -> io::Result<(OrderSocket, UnixListener)> {
         if !is_own(rt, database)? {
             return Err(ErrorKind::Unsupported.into());
@@ -115,7 +114,7 @@ impl OrderSocket {
     }
 }
 
-/// Opens those descriptors of the standard streams that were closed. Otherwise a socket would get one of them, and output would
+/// Opens those descriptors of the standard streams that were closed. Otherwise a socket could get one of them, and output would
 /// be sent to its peer.
 pub fn reserved_descriptors(rt: &HostRuntime) -> io::Result<Vec<File>> {
     let mut held = Vec::new(rt.alloc());
@@ -129,15 +128,15 @@ pub fn reserved_descriptors(rt: &HostRuntime) -> io::Result<Vec<File>> {
     Ok(held)
 }
 
-/// Returns whether a program serves a database. The connection made for this is closed at once.
+/// Returns whether a program serves a database. The connection made to find out is closed immediately.
 pub fn is_served(rt: &HostRuntime, database: &str) -> bool {
     reach(rt, database).is_some()
 }
 
 /// Connects to the program that serves a database; returns `None` if no program does.
 ///
-/// The socket must belong to the owner of the database, and be accessible only to that owner: anything could come through
-/// another socket, and would be printed.
+/// The socket must belong to the owner of the database, and be accessible only to that owner: anything could arrive through
+/// another socket, and it would be printed.
 pub fn reach(rt: &HostRuntime, database: &str) -> Option<UnixStream> {
     let path = path_of(rt, database).ok()?;
     let mode = mode_at(rt, database, path.as_str()).ok()??;

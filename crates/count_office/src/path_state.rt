@@ -1,7 +1,7 @@
 //! What exists at a database's path before an order. An order that creates nothing leaves nothing there.
 //!
-//! `sqlite` creates both files when it opens them: DB, and its log next to it. If DB is missing or empty, it creates a new log,
-//! whatever the old one contains. So only `init` may open such a file, and only if no log contains anything.
+//! `sqlite` creates both files when it opens them: DB, and its log next to it. If DB is missing or empty, `sqlite` creates a
+//! new log, whatever the old one contains. So only `init` may open such a file, and only if no log contains anything.
 
 ghost use Rattle.std.specs.Prelude.{◌≡◌, ◌≢◌, ◌≤◌, None, IfSome};
 
@@ -11,32 +11,32 @@ use std::fs;
 use std::io::{self, ErrorKind};
 use std::os::unix::fs::MetadataExt;
 
-/// The minimum size of a log that contains a page: the smallest page has 512 bytes.
+/// The minimum size of a log that contains a page. The smallest page has 512 bytes.
 const MIN_LOG: u64 = 512;
 
 /// The maximum size of the log that `sqlite` creates before it writes the first page of a database. An `init` that was stopped
 /// at that point may be repeated.
 const MAX_BEGUN_LOG: u64 = 41;
 
-/// If a database and its log have fewer bytes than this in total, they contain no office: each of the eleven tables and of their keys
-/// has a page of 4096 bytes.
+/// If a database and its log have fewer bytes than this in total, they contain no office: each of the eleven tables, and each
+/// of their keys, occupies at least one 4096-byte page.
 pub const MIN_OFFICE: u64 = 22 * 4096;
 
 /// `sqlite` treats a file of at most this many bytes as empty.
 const MAX_EMPTY: u64 = 1;
 
-/// The permissions of a new database, which are for its owner only from its creation on. `sqlite` gives the log the same
+/// The permissions of a new database: only its owner may use it, from the moment it is created. `sqlite` gives the log the same
 /// permissions.
 pub const RIGHTS: u32 = 0o600;
 
-/// The permissions of the group and of others to write a file.
+/// The permission bits that let the group and others write to a file.
 const WRITING_BY_OTHERS: u32 = 0o022;
 
 /// The user id of root.
 const ROOT: u32 = 0;
 
-/// The suffixes that are appended to the name of a database to form those of its logs: the log of `sqlite`, and the journal
-/// that other programs using SQLite play back into a database.
+/// The suffixes that are appended to a database's name to form the names of its logs: the log of `sqlite`, and the journal that
+/// other programs using SQLite play back into a database.
 pub const LOG_ENDINGS: [&str; 2] = [LOG, JOURNAL];
 
 const LOG: &str = "-wal";
@@ -63,8 +63,8 @@ fn greatest_length_at(rt: &HostRuntime, path: &str) -> Option<u64> {
     length_at(rt, path).unwrap_or(Some(u64::MAX))
 }
 
-/// Returns the length of the file that has the name of a log; `None` if nothing has that name. For a link or a directory,
-/// returns the maximum length. Fails if it can't be examined.
+/// Returns the length of the file with a log's name; `None` if nothing has that name. For a link or a directory, returns the
+/// maximum length. Fails if it can't be examined.
 fn log_length_at(rt: &HostRuntime, path: &str) -> io::Result<Option<u64>> {
     match fs::symlink_metadata(rt, path) {
         Ok(found) if found.is_file() => Ok(Some(found.len())),
@@ -74,22 +74,22 @@ fn log_length_at(rt: &HostRuntime, path: &str) -> io::Result<Option<u64>> {
     }
 }
 
-/// What an order finds at a database's path.
+/// What exists at a database's path before an order.
 #[derive(Clone, Copy)]
 pub enum PathKind {
-    /// Nothing, and nothing under the names of its logs.
+    /// Nothing, and nothing with the name of a log.
     Free,
     /// A file that is treated as empty, and no log except one that `sqlite` has just begun. They can't contain an office.
     Empty,
-    /// No file, or an empty one; and next to it a log that may contain something.
+    /// No file, or an empty one; and a log next to it that may contain something.
     LogAlone,
-    /// No file, or an empty one; and whatever has the name of its log can't be examined.
+    /// No file, or an empty one; and whatever has the log's name can't be examined.
     LogUnreadable,
     /// A file that may contain an office, or that can't be examined.
     Taken,
 }
 
-/// Returns the kind of a path, given the lengths of the database and of its logs.
+/// Returns the kind of a path, given the lengths of the database and its logs.
 fn kind_of(database: Option<u64>, log: Option<u64>, journal: Option<u64>) -> PathKind
     ensures free { result ≡ PathKind.Free → (database ≡ None) × (log ≡ None) × (journal ≡ None) }
     ensures empty { result ≡ PathKind.Empty → IfSome log (λ length. length ≤ 41) × (journal ≡ None) }
@@ -140,7 +140,7 @@ fn real_path(rt: &HostRuntime, alloc: Global, path: &str) -> Result<String, Allo
 }
 
 impl PathState {
-    /// Returns what exists at a path at this time.
+    /// Returns what currently exists at a path.
     pub fn at(rt: &HostRuntime, path: &str) -> Result<PathState, AllocError> {
         let database = real_path(rt, rt.alloc(), path)?;
         let log = format!(in rt.alloc(); "{database}{LOG}")?;
@@ -164,7 +164,7 @@ impl PathState {
         self.database.as_str()
     }
 
-    /// Returns the path of its log.
+    /// Returns the path of the log.
     pub fn log(&self) -> &str {
         self.log.as_str()
     }
@@ -191,8 +191,8 @@ impl PathState {
         }
     }
 
-    /// Removes those of the two files that didn't exist before, provided that nothing was stored in them. The database must be
-    /// locked, so that no other order is using it.
+    /// Removes those of the two files that didn't exist before, provided that nothing has been stored in them. The database
+    /// must be locked, so that no other order is using it.
     pub fn remove_created(&self, rt: &HostRuntime) {
         let database = greatest_length_at(rt, self.database.as_str()).unwrap_or(0);
         let log = match log_length_at(rt, self.log.as_str()) {

@@ -7,7 +7,7 @@ ghost use Rattle.count_office.specs.Serving.{public_at, public_with};
 use std::alloc::{AllocError, Global};
 use wire::{Page, Public};
 
-/// The texts that are shown in public at any state: the title, and the page for the screen with its policy.
+/// The texts that are shown in public in any state: the title, and the page for the screen with its policy.
 #[derive(Drop)]
 pub struct PublicTexts<'a> {
     pub title: &'a str,
@@ -15,7 +15,7 @@ pub struct PublicTexts<'a> {
     pub policy: String,
 }
 
-/// Builds the page for the screen and its policy, if there is a title. The only error is that an allocation failed.
+/// Builds the page for the screen and its policy, if there is a title. The only error is a failed allocation.
 pub fn make_public_texts<'a>(
     alloc: Global,
     title: Option<&'a str>,
@@ -34,7 +34,7 @@ pub fn make_public_texts<'a>(
     }))
 }
 
-/// Returns the settings for showing these texts; `None` if there are none.
+/// Returns the settings for showing the given texts; `None` if there are none.
 pub fn public_of<'a>(texts: &'a Option<PublicTexts<'a>>) -> Option<Public<'a>>
     ensures { option_map public_entry result ≡ option_map public_at texts.now }
 {

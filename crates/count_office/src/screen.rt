@@ -1,7 +1,8 @@
 //! An output that a person may read on a terminal, where control characters are masked.
 //!
-//! The names of wards and candidates may come from anyone. They contain no ASCII control characters, but they may contain
-//! others, such as U+009B, which can make a terminal move or rename things, and characters that change the direction of text.
+//! The names of wards and candidates may come from anyone. They contain no ASCII control characters, but they may contain other
+//! control characters, such as U+009B, which can make a terminal move or rename things, and characters that change the
+//! direction of text.
 
 ghost use Rattle.std.specs.Prelude.{◌≡◌, ◌≤◌, ◌<◌, ◌+◌, ◌-◌, ◌^◌, length, take, IfOk, None, OnErr, OnOk};
 ghost use Rattle.std.specs.Io.KnownBytes.{Appends};
@@ -12,13 +13,13 @@ use streams::{Broken, Sink};
 /// The maximum number of bytes to write at once.
 const MAX_PIECE: usize = 512;
 
-/// The byte shown on a terminal in place of a control byte.
+/// The byte that a terminal shows in place of a control byte.
 const MASK: u8 = b'?';
 
 /// An output, and the last two bytes written to it.
 ///
 /// If the output is a terminal, the last byte of any character that controls the terminal or the direction of text is replaced
-/// with a question mark; what remains isn't a valid character. Otherwise each byte is written unchanged.
+/// with a question mark, so that the bytes are no longer a valid character. Otherwise each byte is written unchanged.
 #[derive(Drop)]
 pub struct Screen<S> {
     stream: S,
@@ -74,7 +75,7 @@ fn mask(first: u8, second: u8, bytes: &[u8]) -> [u8; MAX_PIECE]
     room
 }
 
-/// Returns the last two bytes after some bytes that follow these two.
+/// Returns the last two bytes after the given bytes are appended to the given two.
 fn last_two(first: u8, second: u8, bytes: &[u8]) -> (u8, u8)
     ensures { result ≡ last_two first second bytes.now }
 {
@@ -88,7 +89,7 @@ fn last_two(first: u8, second: u8, bytes: &[u8]) -> (u8, u8)
 }
 
 impl<S: Sink> Screen<S> {
-    /// Returns a screen to which nothing has been written yet.
+    /// Returns a screen that nothing has been written to yet.
     pub fn new(stream: S, is_terminal: bool) -> Screen<S>
         ensures stream { result.stream ≡ stream }
         ensures terminal { result.is_terminal ≡ is_terminal }

@@ -1,5 +1,5 @@
 //! What an order for a served office needs from this machine in addition to the office: the file of a copy or of a new office, and
-//! memory in which to replay a journal.
+//! memory for replaying a journal.
 
 ghost use Rattle.std.specs.Prelude.{◌≡◌, ◌-◌, ◌<◌, IfOk, None};
 ghost use Rattle.std.specs.Path.{path_buf_bytes, path_bytes};
@@ -31,7 +31,7 @@ fn folder_of(file: &str) -> Path<'_>
     Path::new(file).parent().unwrap_or(Path::new(""))
 }
 
-/// Returns the path of a copy. A copy ordered from the console, whose folder is empty, is made next to the database.
+/// Returns the path of a copy. If no folder is given, as with the console, the copy is made next to the database.
 fn path_of_copy(alloc: Global, database: &str, to: Destination<'_>) -> Result<PathBuf, AllocError>
     ensures { IfOk result (λ path. path_buf_bytes path ≡ copy_path database.now to.entry.folder.now to.entry.path.now) }
 {

@@ -21,8 +21,8 @@ use store::Fault;
 use streams::Sink;
 use wire::{HttpSettings, Origin, Public};
 
-/// The words of `serve`: its port; the number of clients after which it ends, the origin of a proxy, and the path of a file of
-/// clerks' codes, where given; and, if the count is shown in public, its title.
+/// The words of `serve`: its port; if given, the number of clients after which it ends, the origin of a proxy, and the path of
+/// a file of clerks' codes; and, if the count is shown in public, its title.
 #[derive(Clone, Copy)]
 pub struct Serving<'a> {
     pub port: u32,
@@ -62,7 +62,7 @@ fn most_of(connections: Option<u32>) -> Option<u64>
     }
 }
 
-/// Serves an open office on its network, with its settings.
+/// Serves an open office on a network, with the given settings.
 fn serve_through<D: Network, A: ServedFile, S: Alter>(
     alloc: Global,
     network: &mut D,
@@ -86,7 +86,7 @@ fn serve_through<D: Network, A: ServedFile, S: Alter>(
     serve_connections(alloc, network, server_settings, most, office)
 }
 
-/// Builds the texts that are shown in public, if there is a title. The only failure is that an allocation failed.
+/// Builds the texts that are shown in public, if there is a title. The only failure is a failed allocation.
 fn public_texts<'a>(
     alloc: Global,
     title: Option<&'a str>,
@@ -140,7 +140,7 @@ fn serve_at<H: Host, S: Alter>(
     }
 }
 
-/// Prints the failure, if any, and returns the status.
+/// Prints the failure, if there is one, and returns the status.
 fn tell_outcome<E: Sink>(outcome: Result<(), Failure>, err: &mut E) -> u8
     requires { E.failed err.old < 2 ^ 64 - 1 }
     ensures { TellsOutcome (IsErrorTold E.taken E.failed err.old err.new) (err.new ≡ err.old) result outcome }
@@ -151,10 +151,10 @@ fn tell_outcome<E: Sink>(outcome: Result<(), Failure>, err: &mut E) -> u8
     }
 }
 
-/// Opens the office of a connection, serves it on a host, and returns the status and the connection.
+/// Opens the office on a connection, serves it on a host, and returns the status and the connection.
 ///
 /// If the settings name a file of clerks' codes, that file is read first, and every client is served at a gate with exactly
-/// these codes. Otherwise there is no gate. The count is shown in public if the settings have a title, under that title. If the
+/// those codes. Otherwise there is no gate. If the settings have a title, the count is shown in public under that title. If the
 /// codes can't be read, or the office or the network can't be opened, no client is served and nothing changes. Any failure is
 /// printed.
 pub fn serve<H: Host, S: Alter, E: Sink>(

@@ -5,7 +5,7 @@ use Rattle.tables.specs.declared.fault.Fault.{Fault}
 use Rattle.tables.specs.Reading.{FailsBy, HasFailed}
 use Rattle.store.specs.StateTables.{KeepsConnection}
 
--- a store that failed since b also failed since a, if only our calls were made in between
+-- a store that has failed since b has also failed since a if only our calls were made in between
 failed_since : (a b c : State) → HasCleanDisk b → KeepsConnection a b → b.faults ≤ c.faults → HasFailed b c → HasFailed a c
 failed_since a b c clean first counts (inl more) = let low = first.counts in inl (omega (arith, low, more))
 failed_since a b c clean first counts (inr (inr limit)) = inr (inr (rw first.limit at limit))
@@ -33,7 +33,7 @@ module _ {X E : Type 0} where
   pub told_one : {x : X} {why : E} (r : Result X E) → r ≡ Ok x → r ≡ Err why → ⊥
   told_one {x} {why} r ok err = let bad : Ok x ≡ Err why = sym ok ∙ err in absurd (cc bad)
 
-  -- nor two different errors
+  -- and it isn't two different errors
   abbrev fault_in : Result X E → E → E
   fault_in (Ok x) none = none
   fault_in (Err why) none = why

@@ -16,7 +16,7 @@ use Rattle.desk.specs.declared.copying.CopyState.{CopyState}
 use Rattle.desk.specs.declared.copying.CopyState.TheVariants.{Whole, Untouched, Unknown}
 use Rattle.desk.specs.Pages.{Page, failed, failure_of}
 
--- the reason why a copy of an existing office wasn't made is one of those allowed
+-- the reason why a copy of an existing office wasn't made is one of the allowed ones
 pub ends_copying : (why : CopyFault) (old new : State) → StopsInCopying old new why → EndsCopying old new (failure_of why)
 ends_copying (Office f) old new stops = stops
 ends_copying Taken old new stops = absurd stops
@@ -28,7 +28,7 @@ ends_copying (Copy fault.WrongDatabase) old new stops = tt
 ends_copying (Copy fault.NewerSchema) old new stops = tt
 ends_copying (Copy fault.OlderSchema) old new stops = tt
 
--- if there is no office, the fault that opening reports is reported, and no copying was started
+-- if there is no office, the fault from opening is reported, and copying wasn't started
 pub none_copied : (db : Database) (why : CopyFault) (old new : State) → HoldsNoState db → IsToldInCopying db old new why → IsNoneCopied db (failed (failure_of why)) (state_behind why) old new
 none_copied db (Office f) old new none told = record { fault = f; told = refl; given = told.0; cause = told.1; untouched = refl }
 none_copied db Taken old new none told = absurd told
@@ -42,13 +42,13 @@ holds_behind (Office f) copy_old copy_new untouched whole = (failure_of (Office 
 holds_behind Taken copy_old copy_new untouched whole = (failure_of Taken, refl, untouched tt)
 holds_behind (Copy f) copy_old copy_new untouched whole = (failure_of (Copy f), refl, whole)
 
--- if the other database is reported as untouched, no copying was started
+-- if the other database is reported as untouched, copying wasn't started
 pub unbegun_behind : (why : CopyFault) → state_behind why ≡ Untouched → IsUnbegun why
 unbegun_behind (Office f) same = tt
 unbegun_behind Taken same = tt
 unbegun_behind (Copy f) same = absurd (cc same)
 
--- with status 0, the copy is complete
+-- if the status is 0, the copy is complete
 pub whole_told : (left : CopyState) (page : Page) (copy_old copy_new : State) → page.status ≡ 0 → HoldsCopy left page copy_old copy_new
     → (left ≡ Whole) × (HasCleanDisk copy_new → IsBlank copy_old → (s : OfficeState) × IsAt s copy_new)
 whole_told Whole page copy_old copy_new zero it = (refl, λ honest blank. let made = it.2 honest blank in (made.0, made.2))

@@ -24,25 +24,25 @@ use Rattle.desk.proofs.TellingLemmas.{cut_joined, cut_none, goes_after_both, goe
 pub next_left : {X : Type 0} (rs : List X) (i : ℕ) (r : X) → i < length rs → r ≡ get_or rs i r → drop i rs ≡ r ∷ drop (i + 1) rs
 next_left rs i r within is = drop-cons rs i r within ∙ (ap (λ x. x ∷ drop (suc i) rs) (sym is) ∙ ap (λ n. r ∷ drop n rs) (sym (add-one i)))
 
--- the first elements, extended by the next one
+-- the first i + 1 elements are the first i followed by the next one
 took : {X : Type 0} (xs : List X) (i : ℕ) (x : X) → i < length xs → x ≡ get_or xs i x → take (i + 1) xs ≡ take i xs ++ x ∷ []
 took xs i x within is = take_more xs i x within ∙ ap (λ y. take i xs ++ y ∷ []) (sym is)
 
--- the first elements, this one and the ones after it are all elements
+-- the first i elements, the next one and the ones after it make up the list
 rejoined : {X : Type 0} (xs : List X) (i : ℕ) (x : X) → i < length xs → x ≡ get_or xs i x → take i xs ++ x ∷ drop (i + 1) xs ≡ xs
 rejoined xs i x within is = ap (λ ys. take i xs ++ ys) (sym (next_left xs i x within is)) ∙ take-append-drop i xs
 
--- the first elements are all of them
+-- if i is at least the length of the list, the first i elements are the whole list
 all_taken : {X : Type 0} (xs : List X) (i : ℕ) → length xs ≤ i → take i xs ++ [] ≡ xs
 all_taken xs i all = ap (λ ys. take i xs ++ ys) (sym (drop_all i xs all)) ∙ take-append-drop i xs
 
 -- ---- outcomes, and what was written completely before them
 
--- this many of these requests were answered, and this much of this page was written
+-- the outcome in which the given number of the requests were answered, and the page was written up to the given point
 abbrev pub made : List Request → ℕ → Page → Cut → Course
 made requests answered page cut = record { requests = requests; answered = answered; page = page; cut = cut }
 
--- nothing more is printed
+-- nothing else is printed
 abbrev pub nothing_more : Course
 nothing_more = ended None [] 0 empty_page uncut
 
@@ -62,7 +62,7 @@ above_joined front own said page c =
     ∙ ap (λ p. made ((front ++ own) ++ c.requests) (c.answered + length (front ++ own)) p cut) (sym (below_joined said page c.page))
     ∙ ap (made ((front ++ own) ++ c.requests) (c.answered + length (front ++ own)) (below (below said page) c.page)) (sym (cut_joined said.out page.out c.cut))
 
--- an outcome with nothing after it is the outcome of these requests and their page, followed by nothing
+-- an outcome with nothing after it is the outcome of the given requests and their page, followed by nothing
 pub above_nothing : (own : List Request) (page : Page) → made own (length own) page uncut ≡ told_above own page nothing_more
 above_nothing own page =
     let count : length own ≡ 0 + length own = omega arith in
@@ -81,12 +81,12 @@ module _ (keep : Bool) (line : Option ℕ) (tells : OfficeState → Request → 
   abbrev pub page_at : OfficeState → Request → Page
   page_at s r = fronted line (answer tells s r)
 
-  -- all these requests were answered and the sequence continued; this page reports it, and they led to this state
+  -- all the given requests were answered and the sequence continued; the given page contains the answers, and the requests led to the given final state
   abbrev pub Replied : OfficeState → List Request → Page → OfficeState → Type 0
   Replied s [] said end = (said ≡ empty_page) × (end ≡ s)
   Replied s (r ∷ rs) said end = (rest : Page) × (goes_on keep (answer tells s r).status ≡ true) × (said ≡ below (page_at s r) rest) × Replied (after_one s r) rs rest end
 
-  -- one more request was answered
+  -- another request was answered
   pub replied_more : (s : OfficeState) (rs : List Request) (said : Page) (end : OfficeState) (r : Request) → Replied s rs said end → goes_on keep (answer tells end r).status ≡ true
       → Replied s (rs ++ r ∷ []) (below said (page_at end r)) (after_one end r)
   replied_more s [] said end r (none, same) goes = (
@@ -116,13 +116,13 @@ module _ (keep : Bool) (line : Option ℕ) (tells : OfficeState → Request → 
     replied_then Then old closed st (after_one s r) rs rest end others c more sent,
   )
 
-  -- the sequence doesn't continue after a page that ends it, or after an output that failed
+  -- the sequence doesn't continue after a page that ends it, or after an output has failed
   pub not_gone : (requests : List Request) (answered : ℕ) (page : Page) (cut : Cut) (c : Course) → c ≡ ended line requests answered page cut → (goes_on keep page.status ≡ true → cut ≢ uncut)
       → WentOn keep c → ⊥
   not_gone requests answered page cut c is ends gone =
       ends (ap (goes_on keep) (sym (fronted_status line page)) ∙ (ap (λ (e : Course). goes_on keep e.page.status) (sym is) ∙ gone.0)) (ap (λ (e : Course). e.cut) (sym is) ∙ gone.1)
 
-  -- all of these requests were answered
+  -- all the given requests were answered
   pub replied_all : (old : State) (closed : Bool) (st : State) (s : OfficeState) (rs : List Request) (c : Course) → WentOn keep c → IsSent old closed st keep line tells (IsOver closed st) s rs c
       → (end : OfficeState) × IsOpenAt end closed st × Replied s rs c.page end
   replied_all old closed st s [] c gone sent = (s, sent.1, (ap (λ (e : Course). e.page) sent.0, refl))
@@ -133,7 +133,7 @@ module _ (keep : Bool) (line : Option ℕ) (tells : OfficeState → Request → 
       (it.0, it.1, (rest.page, fine, ap (λ (e : Course). e.page) is, it.2))
   replied_all old closed st s (r ∷ rs) c gone (inr (answered, page, cut, is, ends, it)) = absurd (not_gone (r ∷ rs) answered page cut c is ends gone)
 
--- The first i requests were answered, and this was printed for them. The office is open in the state to which they led.
+-- The first i requests have been answered, with the given page as their outcome. The office is open in the state that they led to.
 pub record SentSo (keep : Bool) (line : Option ℕ) (tells : OfficeState → Request → Told → Page) (s : OfficeState) (rs : List Request) (i : ℕ) (said : Page) (closed : Bool) (st : State) : Type 0 where
   pub end : OfficeState
   pub open_at : IsOpenAt end closed st
@@ -145,7 +145,7 @@ none_sent keep line tells s rs closed st here = record { end = s; open_at = here
 
 -- ---- requests of one step
 
--- the answer to this request is the machine's, and the sequence continued
+-- the given request got the machine's answer, and the sequence continued
 pub went_past : (old : State) (closed : Bool) (st : State) (keep : Bool) (tells : OfficeState → Request → Told → Page) (s : OfficeState) (r : Request) (answered : ℕ) (page : Page)
     → IsAnswered old closed st tells s r answered page
     → goes_on keep page.status ≡ true
@@ -200,7 +200,7 @@ answered_since a b closed st tells s r answered page since (inl told) = inl told
 answered_since a b closed st tells s r answered page since (inr (none, (fault, is, (inl fails, leaves)))) = inr (none, (fault, is, (inl (since fault fails), leaves)))
 answered_since a b closed st tells s r answered page since (inr (none, (fault, is, (inr accepted, leaves)))) = inr (none, (fault, is, (inr accepted, leaves)))
 
--- the outcome of requests sent one after another, with the outcome of what follows them transformed too
+-- the outcome of requests sent one after another, with the outcome of whatever follows them transformed as well
 pub sent_turned : {Then Else : OfficeState → Course → Type 0} {Q : Type 0} (a b : State) (closed : Bool) (st : State) (keep : Bool) (line : Option ℕ)
     (tells : OfficeState → Request → Told → Page) → TellsSince a b st
     → ((x : OfficeState) (e : Course) → Then x e → (WentOn keep e → Q) → Else x e)
@@ -251,7 +251,7 @@ done_since a b closed st folder since s job c (inr unsent) = inr (unsent_since a
 
 -- ---- what is printed if nothing is sent
 
--- this much of a page was written, and nothing was written after it
+-- a page was written up to the given point, and nothing was written after it
 pub unsent_told : (old : State) (closed : Bool) (st : State) (keep : Bool) (line : Option ℕ) (Tells : Page → Type 0) (s : OfficeState) (page : Page) (cut : Cut)
     → (Tells page × IsOpenAt s closed st) ⊎ IsStopped old closed st s page → IsUnsent old closed st keep line Tells (IsOver closed st s) s (ended line [] 0 page cut)
 unsent_told old closed st keep line Tells s page (cut_behind took) why = inr (page, cut_behind took, refl, (λ goes is. absurd (cc is)), why)
@@ -266,20 +266,20 @@ unsent_told old closed st keep line Tells s page uncut why = by (goes_on keep pa
 
 -- ---- the steps of a script
 
--- a step was done: its requests were answered, or it sent none and its page was written
+-- a step was run: its requests were answered, or it sent none and its page was written
 abbrev pub IsTurned : Bool → ScriptStep → File → OfficeState → List Request → Page → OfficeState → Type 0
 IsTurned keep turn file s requests page mid =
     (Sends s turn.errand file requests × Replied keep turn.line (page_answered turn.errand) s requests page mid)
     ⊎ ((told : Page) × IsTold s turn.errand file told × (goes_on keep told.status ≡ true) × (requests ≡ []) × (page ≡ fronted turn.line told) × (mid ≡ s))
 
--- All these steps were done. These are their requests, this page is their outcome, and they led to this state.
+-- All the given steps were run. They sent the given requests, the given page is their outcome, and they led to the given final state.
 abbrev pub Taken : Bool → Folder → OfficeState → List ScriptStep → List Request → Page → OfficeState → Type 0
 Taken keep folder s [] own said end = (own ≡ []) × (said ≡ empty_page) × (end ≡ s)
 Taken keep folder s (turn ∷ turns) own said end =
     (file : File) × (requests others : List Request) × (page rest : Page) × (mid : OfficeState) × IsFileAt folder (file_of turn.errand) file × IsTurned keep turn file s requests page mid
     × (own ≡ requests ++ others) × (said ≡ below page rest) × Taken keep folder mid turns others rest end
 
--- one more step was done
+-- another step was run
 taken_more : (keep : Bool) (folder : Folder) (s : OfficeState) (turns : List ScriptStep) (own : List Request) (said : Page) (end : OfficeState)
     (turn : ScriptStep) (file : File) (requests : List Request) (page : Page) (next : OfficeState)
     → Taken keep folder s turns own said end → IsFileAt folder (file_of turn.errand) file → IsTurned keep turn file end requests page next
@@ -337,7 +337,7 @@ taken_then old closed st keep folder s (turn ∷ ts) own said end others c (file
     let without = ap (λ xs. told_above xs page (told_above left rest c)) none ∙ ap (λ p. told_above [] p (told_above left rest c)) page_is in
     (file, found, inr (inl (told, told_above left rest c, is, goes, sym (same_above requests left own page rest said c own_is said_is) ∙ without, here)))
 
--- The first i steps were done, and this was printed for them. The office is open in the state to which they led.
+-- The first i steps have been run, with the given page as their outcome. The office is open in the state that they led to.
 pub record TakenSo (keep : Bool) (folder : Folder) (s : OfficeState) (turns : List ScriptStep) (i : ℕ) (said : Page) (closed : Bool) (st : State) : Type 0 where
   pub end : OfficeState
   pub open_at : IsOpenAt end closed st
@@ -352,7 +352,7 @@ module _ (old : State) (keep : Bool) (folder : Folder) (s : OfficeState) (turns 
   abbrev pub AllPlayed : Bool → State → Course → Type 0
   AllPlayed closed st c = IsPlayed old closed st keep folder s turns c
 
-  -- the next step was done
+  -- the next step was run
   pub turn_more : (mid : State) (i : ℕ) (turn : ScriptStep) (said : Page) (was : Bool) (before : State) (c : Course) (closed : Bool) (st : State) → i < length turns → turn ≡ get_or turns i turn
       → (so : TakenSo keep folder s turns i said was before) → IsPlayed mid closed st keep folder so.end (turn ∷ []) c → WentOn keep c
       → TakenSo keep folder s turns (i + 1) (below said c.page) closed st
@@ -377,7 +377,7 @@ module _ (old : State) (keep : Bool) (folder : Folder) (s : OfficeState) (turns 
   turn_more mid i turn said was before c closed st within is so (file, found, inr (inr (page, cut, course_is, ends, why))) gone =
       absurd (not_gone keep turn.line (page_answered turn.errand) [] 0 page cut c course_is ends gone)
 
-  -- a step ended the sequence, before the steps after it
+  -- a step ended the sequence, so the steps after it weren't run
   turn_then : (mid : State) (closed : Bool) (st : State) (x : OfficeState) (turn : ScriptStep) (others : List ScriptStep) (c : Course) → TellsSince old mid st → (WentOn keep c → ⊥)
       → IsPlayed mid closed st keep folder x (turn ∷ []) c
       → IsPlayed old closed st keep folder x (turn ∷ others) c
@@ -407,7 +407,7 @@ module _ (old : State) (keep : Bool) (folder : Folder) (s : OfficeState) (turns 
       subst (λ ts. IsPlayed old closed st keep folder s ts (told_above so.own said c)) (rejoined turns i turn within is)
       (taken_then old closed st keep folder s (take i turns) so.own said so.end (turn ∷ drop (i + 1) turns) c so.taken (turn_then mid closed st so.end turn (drop (i + 1) turns) c since bad played))
 
-  -- all steps were done
+  -- all steps were run
   pub turns_all : (i : ℕ) (said : Page) (closed : Bool) (st : State) → length turns ≤ i → (so : TakenSo keep folder s turns i said closed st)
       → AllPlayed closed st (told_above so.own said nothing_more)
   turns_all i said closed st all so =

@@ -1,4 +1,4 @@
--- Computed examples of words with something wrong in them.
+-- Computed examples of words that aren't an order.
 use Rattle.std.proofs.Common.{◌≡◌, [], ◌∷◌, refl}
 use Rattle.std.specs.Prelude.{codes}
 use Rattle.clap.proofs.OnLiterals.{clap_on_literals}

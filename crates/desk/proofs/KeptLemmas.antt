@@ -37,14 +37,14 @@ use Rattle.desk.proofs.TellingLemmas.{goes_after_zero, shown_zero, whole_below, 
 
 -- ---- a connection at rest
 
--- a connection at rest leaves exactly the contents of its database
+-- what a connection at rest leaves is exactly the contents of its database
 pub rests_leaves : (s : OfficeState) (db : Database) (st : State) → ((trees : Trees) → IsTrue st.is_open → st.may_leave trees → trees ≡ st.committed.trees) → RestsAt db st → IsLeftAt s db
     → LeavesState st (λ x. x ≡ s)
 rests_leaves s db st settled rests left trees may =
     let same : db.trees ≡ trees = sym (settled trees rests.is_open may ∙ ap (λ (d : Database). d.trees) rests.committed) in
     (s, refl, record { is = left.is; stores = subst (Stores (tables_of s)) same left.stores })
 
--- the same after reads
+-- the same holds after reads
 pub read_leaves : (s : OfficeState) (db : Database) (old new : State) → ((trees : Trees) → IsTrue old.is_open → old.may_leave trees → trees ≡ old.committed.trees) → OnlyReads old new
     → HasCleanDisk new → RestsAt db old
     → IsLeftAt s db → LeavesState new (λ x. x ≡ s)
@@ -58,7 +58,7 @@ some_there : (s : Schema) → IsOfficeSchema s → has_some_table s ≡ true
 unfolding same_name
 some_there s h = subst (λ (x : Schema). has_some_table x ≡ true) (sym h.is) refl
 
--- an office has all tables, so it isn't an older one
+-- an office has every table, so it isn't an older one
 all_there : (s : Schema) → IsOfficeSchema s → has_every_table s ≡ true
 unfolding same_name
 all_there s h = subst (λ (x : Schema). has_every_table x ≡ true) (sym h.is) refl
@@ -76,7 +76,7 @@ pub left_older : (s : OfficeState) (db : Database) → IsLeftAt s db → IsOlder
 left_older s db left =
     whole_only db.schema (whole_form db.schema (all_there db.schema (office_begins (tables_of s) db (left_holds s db left).office)))
 
--- a migration of an office of this version can only fail with Memory or Store
+-- migrating an office that already has this version can only fail with Memory or Store
 pub migration_told : (s : OfficeState) (db : Database) (fault : Fault) → IsLeftAt s db → IsToldInMigration db fault → IsMemoryOrStore fault
 migration_told s db Memory left told = inl refl
 migration_told s db Store left told = inr refl
@@ -95,7 +95,7 @@ pub has_tables : (s : OfficeState) (db : Database) (st : State) → RestsAt db s
 has_tables s db st rests left =
     table_rests db st rests (some_there db.schema (office_begins (tables_of s) db (left_holds s db left).office))
 
--- an empty database has no table of an office, so creating one there can only fail with Memory or Store
+-- an empty database contains no office table, so creating an office there can only fail with Memory or Store
 pub blank_told : {P : Type 0} (st : State) (fault : Fault) → IsBlank st → (fault ≡ Memory) ⊎ ((fault ≡ Store) ⊎ ((fault ≡ WrongDatabase) × (has_some_table st.now.schema ≡ true) × P))
     → IsMemoryOrStore fault
 blank_told st fault blank (inl memory) = inl memory
@@ -105,7 +105,7 @@ blank_told st fault blank (inr (inr there)) =
     let bad : true ≡ false = sym there.1 ∙ ap has_some_table blank.schema ∙ none in
     absurd (cc bad)
 
--- the fault of creating an office is WrongDatabase, so the alternative for that fault holds
+-- creating an office failed with WrongDatabase, so the alternative for that fault holds
 pub wrong_same : {T P : Type 0} (fault : Fault) → fault ≡ WrongDatabase → (fault ≡ Memory) ⊎ ((fault ≡ Store) ⊎ ((fault ≡ WrongDatabase) × T × P)) → P
 wrong_same fault wrong (inl memory) = let bad : WrongDatabase ≡ Memory = sym wrong ∙ memory in absurd (cc bad)
 wrong_same fault wrong (inr (inl failing)) = let bad : WrongDatabase ≡ Store = sym wrong ∙ failing in absurd (cc bad)
@@ -121,7 +121,7 @@ IsAfterSome s rs n x = (k : ℕ) × (n ≤ k) × (k ≤ n + 1) × (k ≤ length 
 abbrev pub IsGood : Course → Type 0
 IsGood c = (c.page.status ≡ 0) × (c.cut ≡ uncut)
 
--- what remains in effect of requests that were sent starting from a state
+-- what remains in effect after requests were sent, starting from the given state
 pub record Kept (s : OfficeState) (c : Course) (st : State) : Type 0 where
   pub within : c.answered ≤ length c.requests
   pub leaves : LeavesState st (IsAfterSome s c.requests c.answered)
@@ -135,7 +135,7 @@ kept_none s line page cut st leaves = record {
   all = λ fine. refl;
 }
 
--- one more request was sent before the others
+-- another request was sent before the others
 kept_more : (s : OfficeState) (r : Request) (page : Page) (rest : Course) (st : State) → Kept (after_one s r) rest st → Kept s (told_above (r ∷ []) page rest) st
 kept_more s r page rest st kept =
     let low = kept.within in
@@ -148,7 +148,7 @@ kept_more s r page rest st kept =
       ) in omega (arith, same);
     }
 
--- a page without a request was printed before the others
+-- a page that belongs to no request was printed before the rest
 kept_above : (s : OfficeState) (page : Page) (rest : Course) (st : State) → Kept s rest st → Kept s (told_above [] page rest) st
 kept_above s page rest st kept =
     let low = kept.within in

@@ -19,13 +19,13 @@ use Rattle.desk.proofs.CauseLemmas.{TellsSince}
 pub note_told : (id own reply : List ℕ) (differs : Result Bool Reason) → id ≡ own → differs ≡ Ok true → noted id reply ≡ page_found (page_kept own reply) differs
 note_told id own reply differs same told = ap (λ x. noted x reply) same ∙ ap (page_found (page_kept own reply)) (sym told)
 
--- such a request doesn't change the state
+-- a request that was accepted earlier doesn't change the state
 kept_stays : (s : OfficeState) (o : Outcome) (reply : List ℕ) → again reply ≡ told_of o → state_after s o ≡ s
 kept_stays s (accepted next words) reply told = let bad : again reply ≡ done words = told in absurd (cc bad)
 kept_stays s (kept words) reply told = refl
 kept_stays s (refused why) reply told = refl
 
--- a fault of a read closed the office in the state before the request
+-- a fault during a read closed the office in the state that it was in before the request
 closed_in : (s : OfficeState) (o : Outcome) (closed : Bool) (st : State) {f : _} → IsClosedReading s f closed st → IsClosedIn s o f closed st
 closed_in s o closed st shut = record {
   is_closed = shut.is_closed;
@@ -34,7 +34,7 @@ closed_in s o closed st shut = record {
   leaves = λ trees may. let it = shut.leaves trees may in (it.0, inl it.1, it.2);
 }
 
--- the answer to such a request is its reply, with the note if the stored content differs; or the fault of the read
+-- a request that was accepted earlier is answered with its reply, and with the note if the stored content differs; or with the fault from the read
 pub answered_before : (first mid next : State) (was closed : Bool) (s : OfficeState) (r : Request) (reply : List ℕ) (page : Page) → TellsSince first mid next → again reply ≡ told_of (step_of s r)
     → IsOpenAt (state_after s (step_of s r)) was mid
     → (was ≡ false → (t : OfficeState) → IsAt t mid → IsFound t (page_kept (string_bytes r.id) reply) (Ok (is_kept_otherwise t r)) page closed mid next)

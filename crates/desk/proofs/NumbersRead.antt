@@ -23,7 +23,7 @@ unfitting_is_none t unfit = by (is_number t) refl
         let number = accepts-Accepts false (parser.Unsigned 0 4294967295) t is in
         absurd (unfit (number.0, omega arith))
 
--- what a typed getter of `clap` reads from a text; `G` relates the text to the result
+-- what a typed `clap` getter reads from a text; `G` relates the text to the result
 pub read_number : (E : Type 0) (G : List ℕ → Result ℕ E → Type 0) (t : List ℕ) (r : Option ℕ)
     → ((u : List ℕ) (x : Result ℕ E) → G u x → ParsesUnsigned 32 10 u x)
     → ReadsOne G t r → r ≡ number_in t

@@ -64,11 +64,11 @@ module _ (old : State) (closed : Bool) (st : State) where
   open_done folder s job c (inl (turns, are, played)) = open_played (keeps_going job) folder s turns c played
   open_done folder s job c (inr unsent) = open_unsent false None _ s c (λ e never. absurd never) unsent
 
--- a prefix with at most one element more than the first n is a prefix of the first n and the next one
+-- a prefix that is at most one element longer than the first n is also a prefix of the first n elements and the next one
 take_next : {X : Type 0} (xs : List X) (n k : ℕ) → k ≤ n + 1 → take k xs ≡ take k (take n xs ++ take 1 (drop n xs))
 take_next xs n k low = sym (take-take k (n + 1) xs low) ∙ ap (take k) (take-add n 1 xs)
 
--- a state after a prefix of the requests, namely the answered ones and at most one more, is also a state after a prefix of just these
+-- a state after a prefix of the requests, namely the answered ones and at most one more, is also a state after a prefix of just those requests
 pub after_next : (s : OfficeState) (c : Course) (x : OfficeState) → c.answered ≤ length c.requests → IsAfterSome s c.requests c.answered x
     → IsAfterSome s (take c.answered c.requests ++ take 1 (drop c.answered c.requests)) (length (take c.answered c.requests)) x
 after_next s c x within (k, least, most, inside, is) =

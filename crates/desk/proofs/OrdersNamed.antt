@@ -51,7 +51,7 @@ entered_is_order None there = cc
 entered_is_order (Some p) there = found_is_order (λ s. answers_to p.0 (label_of s)) p.1 (built office_words).subs subcommands_are_orders
     (sym (mapped_is_there (λ s. rows_at s p.1) _) ∙ there)
 
--- the subcommand of the matches is the one that the specification finds in the words
+-- the matched subcommand is the one that the specification finds in the words
 pub matches_are_the_words : (c : Command) (m : ArgMatches) (words : List Text) → app_of c ≡ office_words → HasMatchesOf (app_of c) words m
     → subcommand_rows_of m ≡ subcommand_of office_words words
 matches_are_the_words c m words app has = (has (ap is_simple app ∙ office_is_simple)).1 ∙ ap (λ a. subcommand_of a words) app
@@ -77,7 +77,7 @@ both_given : {B : Type 0} (f : B → Text) (h : B → List Row) (o : Option B) (
 both_given f h None name rows a b = absurd (cc a)
 both_given f h (Some x) name rows a b = cc
 
--- the name and the rows of the subcommand of the matches
+-- the name and rows of the matched subcommand
 pub rows_given : (name : Text) (rows : List Row) (m : ArgMatches) → Some name ≡ subcommand_name_of m → Some rows ≡ option_map (λ (p : Text × List Row). p.1) (subcommand_rows_of m)
     → subcommand_rows_of m ≡ Some (name, rows)
 rows_given name rows m a b = both_given (λ x. (out-SubCommand (box_value x)).name.now) (λ x. rows_of (found_of (out-SubCommand (box_value x)).matches)) (out-ArgMatches m).subcommand name rows a b

@@ -15,12 +15,12 @@ use Rattle.desk.specs.Overviews.{lines_of}
 use Rattle.desk.specs.Pages.{Page, failed, line, page_found, page_stopped, printed}
 use Rattle.desk.specs.declared.lines.Failure.TheVariants.{Office}
 
--- the lines of values are the lines of their views
+-- the lines for values are the lines for their views
 lines_viewed : {X V : Type 0} (text : V → Text) (view : X → V) (xs : List X) → flat_map (λ x. line (text (view x))) xs ≡ lines_of text (map view xs)
 lines_viewed text view [] = refl
 lines_viewed text view (x ∷ xs) = ap (λ rest. line (text (view x)) ++ rest) (lines_viewed text view xs)
 
--- what is printed is the lines of what was read, or why there are none
+-- what is printed is the lines for what was read, or the reason why there are none
 pub lines_found : {W X V : Type 0} (items : W → List X) (text : V → Text) (view : X → V) (s : OfficeState) (told : Result (List V) Reason)
     (found : Result W ReadError) (page : Page) (closed : Bool) (old st : State)
     → Read (λ w. map view (items w)) s told found closed st

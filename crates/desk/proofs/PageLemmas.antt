@@ -13,7 +13,7 @@ use Rattle.desk.specs.declared.lines.Failure.TheVariants.{Output}
 use Rattle.desk.specs.Pages.{Cut, uncut, cut_behind, cut_error, IsErrorTold, IsOutputBroken, IsPut, IsShown, IsWhole, Outputs}
 use Rattle.desk.specs.Pages.{Page, Shows, after_prefix, below, cut_below, empty_page, failed, fronted, line_front, outputs_of, printed, combined_status}
 
--- the pieces of one more element are appended
+-- the pieces of another element are appended
 pieces_more : {X : Type 0} (f : X → Text) (xs : List X) (i : ℕ) (d : X) → i < length xs → flat_map f (take (i + 1) xs) ≡ flat_map f (take i xs) ++ f (get_or xs i d)
 pieces_more f xs i d within =
     ap (flat_map f) (take_more xs i d within) ∙ flat_map-append f (take i xs) (get_or xs i d ∷ []) ∙ ap (λ text. flat_map f (take i xs) ++ text) (append-nil (f (get_or xs i d)))
@@ -47,12 +47,12 @@ module _ {W : Type 0} {taken : W → Option (List ℕ)} {failed : W → ℕ} {X 
 -- ---- pages
 
 module _ {O E : Type 0} (taken : O → Option (List ℕ)) (failed_out : O → ℕ) (taken_err : E → Option (List ℕ)) (failed_err : E → ℕ) where
-  -- a text was printed on the output
+  -- a text was printed to the output
   pub text_shown : {X F : Type 0} {x : X} (old new : O) (err : E) (text : Text) → IsPut {E = F} taken failed_out old new text (Ok x)
       → Shows (outputs_of taken failed_out taken_err failed_err old err) (outputs_of taken failed_out taken_err failed_err new err) (printed text) 0
   text_shown old new err text put = (uncut, record { out = put.all; out_failed = put.ok; err = Appends-nil (taken_err err); err_failed = refl; ends = refl })
 
-  -- a prefix of the text was printed, and the failure was reported on the error output
+  -- a prefix of the text was printed, and the failure was reported to the error output
   pub output_broken : {X F : Type 0} {f : F} (old new : O) (err told : E) (text : Text) (status : ℕ) → IsPut {X = X} taken failed_out old new text (Err f)
       → IsErrorTold taken_err failed_err err told (failed Output).err 3 status
       → Shows (outputs_of taken failed_out taken_err failed_err old err) (outputs_of taken failed_out taken_err failed_err new told) (printed text) status
@@ -62,7 +62,7 @@ module _ {O E : Type 0} (taken : O → Option (List ℕ)) (failed_out : O → �
       n : ℕ
       n = put.cut_off.count
 
-  -- a line was printed on the error output
+  -- a line was printed to the error output
   pub error_shown : (out : O) (old new : E) (page : Page) (status : ℕ) → page.out ≡ [] → IsErrorTold taken_err failed_err old new page.err page.status status
       → Shows (outputs_of taken failed_out taken_err failed_err out old) (outputs_of taken failed_out taken_err failed_err out new) page status
   error_shown out old new page status none told = elim told [
@@ -153,14 +153,14 @@ whole_more old mid new above page before status first next = record {
   ends = ap (λ n. combined_status n status) first.ends ∙ ap (combined_status above.status) next.ends;
 }
 
--- a text was printed on the error output, after one that was written completely
+-- a text was printed to the error output, after a text that was written completely
 error_behind : (old mid new : Outputs) (before text : Text) (status : ℕ) → Appends old.err mid.err before → mid.err_failed ≡ old.err_failed
     → IsErrorTold (λ (o : Outputs). o.err) (λ (o : Outputs). o.err_failed) mid new text 3 status
     → IsErrorTold (λ (o : Outputs). o.err) (λ (o : Outputs). o.err_failed) old new (before ++ text) 3 status
 error_behind old mid new before text status one same (inl whole) = inl (Appends-trans _ _ _ _ _ one whole.0, whole.1 ∙ same, whole.2)
 error_behind old mid new before text status one same (inr part) = inr (AppendsBeginning-behind _ _ _ _ _ one part.0, part.1 ∙ ap (λ n. n + 1) same, part.2)
 
--- a page with a nonzero status was printed after one that was written completely
+-- a page with a nonzero status was printed after a page that was written completely
 pub shown_last : (cut : Cut) (old mid new : Outputs) (above page : Page) (before status : ℕ) → IsWhole old mid above before → IsShown cut mid new page status → status ≢ 0
     → IsShown (cut_below above.out cut) old new (below above page) status
 shown_last uncut old mid new above page before status first next other = record {
@@ -185,7 +185,7 @@ shown_last cut_error old mid new above page before status first next other = rec
   ends = next.ends;
 }
 
--- ---- pages of a script's lines
+-- ---- pages for a script's lines
 
 pub fronted_status : (line : Option ℕ) (page : Page) → (fronted line page).status ≡ page.status
 fronted_status None page = refl
@@ -200,13 +200,13 @@ pub fronted_err : (line : Option ℕ) (page : Page) (byte : ℕ) (bytes : Text) 
 fronted_err None page byte bytes is = refl
 fronted_err (Some number) page byte bytes is = ap (after_prefix (line_front (Some number))) is ∙ ap (λ text. line_front (Some number) ++ text) (sym is)
 
--- a text on the output is printed without the line number
+-- a text for the output is printed without the line number
 pub printed_shown : (line : Option ℕ) (old new : Outputs) (text : Text) (status : ℕ) → Shows old new (printed text) status → Shows old new (fronted line (printed text)) status
 printed_shown None old new text status shown = shown
 printed_shown (Some number) old new text status shown = shown
 
 module _ {O E : Type 0} (taken : O → Option (List ℕ)) (failed_out : O → ℕ) (taken_err : E → Option (List ℕ)) (failed_err : E → ℕ) where
-  -- a line was printed on the error output, after the line number
+  -- a line was printed to the error output, after the line number
   pub front_shown : (line : Option ℕ) (out : O) (old new : E) (page : Page) (status : ℕ) (byte : ℕ) (bytes : Text) → page.out ≡ [] → page.err ≡ byte ∷ bytes
       → IsErrorTold taken_err failed_err old new (line_front line ++ page.err) page.status status
       → Shows (outputs_of taken failed_out taken_err failed_err out old) (outputs_of taken failed_out taken_err failed_err out new) (fronted line page) status
@@ -214,7 +214,7 @@ module _ {O E : Type 0} (taken : O → Option (List ℕ)) (failed_out : O → �
       error_shown taken failed_out taken_err failed_err out old new (fronted line page) status (fronted_out line page ∙ none)
       (rw (fronted_err line page byte bytes some, fronted_status line page) told)
 
-  -- a text was printed on the output, and a line on the error output after the line number
+  -- a text was printed to the output, and a line to the error output, after the line number
   pub both_fronted : {X F : Type 0} {x : X} (line : Option ℕ) (old new : O) (err told : E) (page : Page) (status byte : ℕ) (bytes : Text)
       → page.err ≡ byte ∷ bytes → IsPut {E = F} taken failed_out old new page.out (Ok x)
       → IsErrorTold taken_err failed_err err told (line_front line ++ page.err) page.status status

@@ -1,4 +1,4 @@
--- Extending the lines of papers, and the names of candidates, by one.
+-- Extending the lines for papers, and the names of candidates, by one.
 use Rattle.std.proofs.Common.{◌≡◌, ℕ, ◌+◌, ◌<◌, List, [], ◌∷◌, ◌++◌, map, length, get_or, drop, suc, sym, ap, ◌∙◌, arith, append_assoc, add-one, drop-cons}
 use Rattle.std.specs.Borrow.{Bor}
 use Rattle.std.specs.List.{range_with_len}
@@ -15,7 +15,7 @@ lines_left {X = X} told view xs k x within is =
     let next : drop k xs ≡ x ∷ drop (k + 1) xs = rw add-one (drop-cons xs k x within ∙ ap (λ (y : X). y ∷ drop (suc k) xs) (sym is)) in
     ap (λ (ys : List X). lines_of told (map view ys)) next
 
--- the lines so far are extended by one
+-- the lines read so far are extended by one
 pub line_more : {X V : Type 0} (told : V → Text) (view : X → V) (xs : List X) (k : ℕ) (x : X) (before after all : Text) → k < length xs → x ≡ get_or xs k x
     → after ≡ before ++ line (told (view x)) → before ++ lines_of told (map view (drop k xs)) ≡ all → after ++ lines_of told (map view (drop (k + 1) xs)) ≡ all
 line_more told view xs k x before after all within is put so_far =

@@ -32,7 +32,7 @@ pub holds_lines : (file : File) (read : List Numbered) (lines : List Typed) → 
 holds_lines file read lines are holds =
     holds_also (λ text. read ≡ numbered_from 1 (lines_of text)) (λ text. lines ≡ script_lines text) file (λ text is. are ∙ ap (map typed_line) is) holds
 
--- the steps of these lines are the steps of the script
+-- the steps in a file's lines are the steps of its script
 holds_turns : (file : File) (lines : List Typed) (turns : List ScriptStep) → AreTurns lines turns → HoldsText file (λ text. lines ≡ script_lines text)
     → HoldsText file (λ text. AreTurns (script_lines text) turns)
 holds_turns file lines turns are holds =
@@ -84,14 +84,14 @@ module _ (folder : Folder) (s : OfficeState) (keep : Bool) (path : Bor Text) (fi
     ],
   )
 
-  -- the outcome if a line isn't understood or an allocation failed
+  -- the outcome if a line isn't understood or an allocation fails
   replay_fault : (lines : List Typed) (fault : ScriptFault) (cut : Cut) → IsFaultOfLines lines fault → HoldsText file (λ text. lines ≡ script_lines text) → IsOpenAt s closed st
       → IsDone old closed st folder s (job.Replay path keep) (ended None [] 0 (script_page fault) cut)
   replay_fault lines script.Memory cut is holds here = out_of_memory (script_page script.Memory) cut refl here
   replay_fault lines (script.ScriptLine number flaw) cut is holds here =
       inr (unsent_ended _ old closed st s (script_page (script.ScriptLine number flaw)) cut (λ zero. absurd (omega arith)) (inl ((file, found, first_flaw file lines number flaw is holds), here)))
 
-  -- the outcome of the lines of a script
+  -- the outcome of a script's lines
   pub replay_of : (lines : List Typed) (c : Course) → HoldsText file (λ text. lines ≡ script_lines text) → IsReplayOf keep folder s lines c old closed st
       → IsDone old closed st folder s (job.Replay path keep) c
   replay_of lines c holds (inl (turns, are, played)) = inl (turns, (file, found, holds_turns file lines turns are holds), played)

@@ -18,12 +18,12 @@ use Rattle.desk.specs.declared.scripts.ScriptStep.{ScriptStep}
 use Rattle.desk.specs.Lexing.{IsFaultOfLine, IsFaultOfLines}
 use Rattle.desk.proofs.CourseLemmas.{next_left}
 
--- one more line is a step
+-- another line is a step
 pub turns_more : (lines : List Typed) (turns : List ScriptStep) (line : Typed) (turn : ScriptStep) → AreTurns lines turns → IsStep line turn → AreTurns (lines ++ line ∷ []) (turns ++ turn ∷ [])
 turns_more [] turns line turn none is = (turn, [], ap (λ ts. ts ++ turn ∷ []) none, is, refl)
 turns_more (l ∷ ls) turns line turn are is = (are.0, are.1 ++ turn ∷ [], ap (λ ts. ts ++ turn ∷ []) are.2, are.3, turns_more ls are.1 line turn are.4 is)
 
--- what is wrong with a line that follows steps
+-- what is wrong with a line that follows lines that are steps
 pub flaw_behind : (lines : List Typed) (turns : List ScriptStep) (line : Typed) (left : List Typed) (number : ℕ) (flaw : LineFlaw) → AreTurns lines turns
     → line.number ≡ number → IsFlawOf line.words flaw
     → IsFirstFlaw (lines ++ line ∷ left) number flaw
@@ -36,7 +36,7 @@ module _ {X : Type 0} (f : X → List ℕ) where
   one_more : (xs : List X) (i : ℕ) (x : X) → i < length xs → x ≡ get_or xs i x → map f (take (i + 1) xs) ≡ map f (take i xs) ++ f x ∷ []
   one_more xs i x within is = ap (map f) (take_more xs i x within) ∙ (map-append f (take i xs) (get_or xs i x ∷ []) ∙ ap (λ y. map f (take i xs) ++ f y ∷ []) (sym is))
 
-  -- one more word is UTF-8
+  -- another word is UTF-8
   pub words_more : (first : Text) (xs : List X) (i : ℕ) (x : X) (texts new : List (Bor Text)) (text : Bor Text) → i < length xs → x ≡ get_or xs i x → new ≡ texts ++ text ∷ [] → text.now ≡ f x
       → map (λ t. t.now) texts ≡ first ∷ map f (take i xs) → map (λ t. t.now) new ≡ first ∷ map f (take (i + 1) xs)
   words_more first xs i x texts new text within is more same so =
@@ -55,20 +55,20 @@ module _ {X : Type 0} (f : X → List ℕ) where
       by false e = e
       by true e = absurd (other (IsUtf8-from_is_utf8 (f x) e))
 
--- ---- the lines so far
+-- ---- the lines read so far
 
 module _ {X : Type 0} (f : X → Typed) where
   line_more : (xs : List X) (i : ℕ) (x : X) → i < length xs → x ≡ get_or xs i x → map f (take (i + 1) xs) ≡ map f (take i xs) ++ f x ∷ []
   line_more xs i x within is = ap (map f) (take_more xs i x within) ∙ (map-append f (take i xs) (get_or xs i x ∷ []) ∙ ap (λ y. map f (take i xs) ++ f y ∷ []) (sym is))
 
-  -- one more of these lines is a step
+  -- another of the lines is a step
   pub turns_so : (xs : List X) (i : ℕ) (x : X) (turns new : List ScriptStep) (turn : ScriptStep) → i < length xs → x ≡ get_or xs i x → AreTurns (map f (take i xs)) turns → IsStep (f x) turn
       → new ≡ turns ++ turn ∷ []
       → AreTurns (map f (take (i + 1) xs)) new
   turns_so xs i x turns new turn within is so one more =
       rw more (subst (λ ls. AreTurns ls (turns ++ turn ∷ [])) (sym (line_more xs i x within is)) (turns_more (map f (take i xs)) turns (f x) turn so one))
 
-  -- what is wrong with the line after them
+  -- what is wrong with the line after those read so far
   pub fault_behind : (xs : List X) (i : ℕ) (x : X) (turns : List ScriptStep) (fault : ScriptFault) → i < length xs → x ≡ get_or xs i x → AreTurns (map f (take i xs)) turns
       → IsFaultOfLine (f x) fault → IsFaultOfLines (map f xs) fault
   fault_behind xs i x turns script.Memory within is so wrong = tt

@@ -53,7 +53,7 @@ pub stage_since : (a b : State) (closed : Bool) (st : State) (first : Bool) (s :
     → IsStage a closed st first s r page goes
 stage_since a b closed st first s r page goes since (answered, met, goes_is) = (answered, answered_since a b closed st (λ t q. page_counted first) s r answered page since met, goes_is)
 
--- a disjunction with true is true, and a conjunction with false is false, whatever the other part is
+-- a disjunction with true is true, and a conjunction with false is false, whatever the other operand is
 or_true : (b : Bool) → (b || true) ≡ true
 or_true true = refl
 or_true false = refl
@@ -65,22 +65,22 @@ and_false false = refl
 -- ---- requests by number
 
 module _ (ward : ℕ) (id : Text) where
-  -- these requests have this many consecutive numbers, starting with this one
+  -- the given requests have n consecutive numbers, starting with k
   abbrev pub Numbered : ℕ → ℕ → List Request → Type 0
   Numbered k n rs = map sent_as rs ≡ map (advance_at ward id) (range_with_len k n)
 
-  -- the first of these requests, and the remaining ones
+  -- the first of the given requests, and the remaining ones
   numbered_first : (k n : ℕ) (r : Request) (rs : List Request) → Numbered k (suc n) (r ∷ rs) → sent_as r ≡ advance_at ward id k
   numbered_first k n r rs are = ap (λ (xs : List Sent). get_or xs 0 (sent_as r)) are
 
   numbered_others : (k n : ℕ) (r : Request) (rs : List Request) → Numbered k (suc n) (r ∷ rs) → Numbered (k + 1) n rs
   numbered_others k n r rs are = ap (λ (xs : List Sent). drop 1 xs) are
 
-  -- there are none if no numbers are left
+  -- no requests are left if no numbers are left
   numbered_none : (k : ℕ) (r : Request) (rs : List Request) → Numbered k 0 (r ∷ rs) → ⊥
   numbered_none k r rs are = let bad : suc (length (map sent_as rs)) ≡ 0 = ap (λ (xs : List Sent). length xs) are in absurd (omega arith)
 
-  -- the first of these requests has this id
+  -- the first of the given requests has the id for number 1
   pub first_named : (rs : List Request) (r : Request) → Some r ≡ slice_get rs 0 → map sent_as rs ≡ advances ward id most_advances → string_bytes r.id ≡ id_at id 1
   first_named [] r is are = absurd (cc is)
   first_named (q ∷ rs) r is are =
@@ -91,7 +91,7 @@ module _ (ward : ℕ) (id : Text) where
   none_numbered [] is are = let bad : 0 ≡ suc (length (map (advance_at ward id) (range_with_len 2 31))) = ap (λ (xs : List Sent). length xs) are in absurd (omega arith)
   none_numbered (q ∷ rs) is are = absurd (cc is)
 
-  -- some prefix of these requests, including the first one, is a complete sequence
+  -- some prefix of the given requests that includes the first one is a complete sequence
   pub ended_somewhere : (n k : ℕ) (s : OfficeState) (r : Request) (rs : List Request) → Numbered k (suc n) (r ∷ rs) → k + n ≡ most_advances → (tail : List Request) × AreAdvances s ward id k (r ∷ tail)
   ended_somewhere zero k s r rs are most =
       let last : (k == most_advances) ≡ true = eq-eqb k most_advances (omega (arith, most)) in
@@ -113,12 +113,12 @@ module _ (ward : ℕ) (id : Text) where
 
   -- ---- requests that the machine didn't refuse
 
-  -- these requests, numbered from `k` on, weren't refused and led to this state
+  -- the given requests, numbered from `k`, weren't refused and led to the given state
   abbrev pub Going : OfficeState → ℕ → List Request → OfficeState → Type 0
   Going s k [] end = end ≡ s
   Going s k (r ∷ rs) end = (sent_as r ≡ advance_at ward id k) × (is_refused (step_of s r) ≡ false) × Going (after_one s r) (suc k) rs end
 
-  -- one more request wasn't refused
+  -- another request wasn't refused
   pub going_more : (s : OfficeState) (k : ℕ) (rs : List Request) (end : OfficeState) (r : Request) → Going s k rs end → sent_as r ≡ advance_at ward id (k + length rs)
       → is_refused (step_of end r) ≡ false
       → Going s k (rs ++ r ∷ []) (after_one end r)
@@ -154,8 +154,8 @@ module _ (ward : ℕ) (id : Text) where
 
 -- ---- the stages so far
 
--- The stages so far: their requests weren't refused, and this was printed for them. The office is open in the state to which they led. The requests with higher
--- numbers remain to be sent.
+-- The stages so far: their requests weren't refused, and the given page is their outcome. The office is open in the state that they led to. The requests with
+-- higher numbers have yet to be sent.
 pub record CountedSo (keep : Bool) (line : Option ℕ) (s : OfficeState) (ward : ℕ) (id : Text) (rs : List Request) (i : ℕ) (said : Page) (closed : Bool) (st : State) : Type 0 where
   pub end : OfficeState
   pub open_at : IsOpenAt end closed st

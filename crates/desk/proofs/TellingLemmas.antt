@@ -7,7 +7,7 @@ use Rattle.clap.specs.Words.{Text}
 use Rattle.desk.specs.Pages.{Cut, uncut, cut_behind, cut_error, IsShown, IsWhole, Outputs, Page, below, cut_below, empty_page, goes_on, combined_status}
 use Rattle.desk.proofs.PageLemmas.{below_last, broken_ends}
 
--- the pages so far were written completely, one after another, with this combined status
+-- the pages so far were written completely, one after another, with the given combined status
 pub record ToldSo (old new : Outputs) (status : ℕ) (P : Page → Type 0) : Type 0 where
   pub said : Page
   pub shown : IsWhole old new said status
@@ -26,7 +26,7 @@ pub not_after_fault : (keep : Bool) (status : ℕ) → status ≡ 3 → goes_on 
 not_after_fault true status three = rw three refl
 not_after_fault false status three = rw three refl
 
--- if it continues after each of two statuses, it continues after their combined status
+-- if the sequence continues after each of two statuses, it also continues after their combined status
 pub goes_after_both : (keep : Bool) (a b : ℕ) → goes_on keep a ≡ true → goes_on keep b ≡ true → goes_on keep (combined_status a b) ≡ true
 goes_after_both keep a b first last = by (b == 0) refl
   where
@@ -41,7 +41,7 @@ goes_after_last keep a b both = by (b == 0) refl
     by true e = rw e refl
     by false e = let same : combined_status a b ≡ b = rw e refl in ap (goes_on keep) (sym same) ∙ both
 
--- it continues after status 0
+-- the sequence continues after status 0
 pub goes_after_zero : (keep : Bool) (status : ℕ) → status ≡ 0 → goes_on keep status ≡ true
 goes_after_zero keep status zero = rw zero refl
 
@@ -53,7 +53,7 @@ zero_last a b both = by (b == 0) refl
     by true e = eqb-true b 0 e
     by false e = let same : combined_status a b ≡ b = rw e refl in sym same ∙ both
 
--- if it doesn't continue, the status is nonzero
+-- if the sequence doesn't continue, the status is nonzero
 pub stops_by : (keep : Bool) (status : ℕ) → goes_on keep status ≡ false → status ≢ 0
 stops_by keep status stops zero = true≢false (sym (goes_after_zero keep status zero) ∙ stops)
 
@@ -70,7 +70,7 @@ shown_zero uncut old new page status all zero = (refl, sym all.ends ∙ zero)
 shown_zero (cut_behind took) old new page status broken zero = let three : status ≡ 3 = broken_ends broken in absurd (omega arith)
 shown_zero cut_error old new page status broken zero = let three : status ≡ 3 = broken.ends in absurd (omega arith)
 
--- what was printed with such a status was written completely
+-- a page that was printed with a status after which the sequence continues was written completely
 pub shown_whole : (keep : Bool) (cut : Cut) (old new : Outputs) (page : Page) (status : ℕ) → IsShown cut old new page status → goes_on keep status ≡ true → IsWhole old new page status
 shown_whole keep uncut old new page status all goes = all
 shown_whole keep (cut_behind took) old new page status broken goes = absurd (true≢false (sym goes ∙ not_after_fault keep status (broken_ends broken)))
@@ -83,7 +83,7 @@ shown_stops keep uncut old new page status all stops goes is = true≢false (sym
 shown_stops keep (cut_behind took) old new page status broken stops goes is = absurd (cc is)
 shown_stops keep cut_error old new page status broken stops goes is = absurd (cc is)
 
--- the same for a nonzero status
+-- the same holds for a nonzero status
 pub shown_else : (cut : Cut) (old new : Outputs) (page : Page) (status : ℕ) → IsShown cut old new page status → status ≢ 0 → page.status ≡ 0 → cut ≢ uncut
 shown_else uncut old new page status all ends zero is = ends (all.ends ∙ zero)
 shown_else (cut_behind took) old new page status shown ends zero is = absurd (cc is)

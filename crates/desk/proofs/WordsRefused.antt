@@ -16,7 +16,7 @@ use Rattle.desk.specs.Words.{IsNoneMeant, IsToldOf, TellsOwnText, TellsRefusal, 
 use Rattle.desk.specs.declared.words.WordsFault.{WordsFault}
 use Rattle.desk.specs.declared.words.WordsFault.TheVariants as words_fault
 
--- a kind is one of a list of kinds, so its status is that of one of them
+-- a kind in a list of kinds has the status of one of them
 among_gives_status : (k : ErrorKind) (kinds : Kinds) (status : ℕ) → status ≡ status_of_kind k → IsAmong k kinds
     → list_any (λ x. status_of_kind x == status) kinds ≡ true
 among_gives_status k [] status is none = absurd none
@@ -27,7 +27,7 @@ among_gives_status k (x ∷ xs) status is (inr later) = rw (among_gives_status k
 only_kind : (k : ErrorKind) (kinds : Kinds) → kinds ≡ kind.DisplayVersion ∷ [] → IsAmong k kinds → k ≡ kind.DisplayVersion
 only_kind k kinds only among = elim (subst (IsAmong k) only among) [ inl same ↦ same | inr none ↦ absurd none ]
 
--- the same for any kind except that of a failed allocation
+-- the same holds for any kind except the one for a failed allocation
 refusal_gives_status : (k : ErrorKind) (kinds : Kinds) (status : ℕ) → status ≡ status_of_kind k → (k ≡ kind.OutOfMemory → ⊥) → (k ≡ kind.OutOfMemory) ⊎ IsAmong k kinds
     → list_any (λ x. status_of_kind x == status) kinds ≡ true
 refusal_gives_status k kinds status is other (inl memory) = absurd (other memory)
@@ -43,7 +43,7 @@ refusal_is_told k kinds words_fault.TitleAlone tells among = absurd tells
 refusal_is_told k kinds words_fault.Form tells among = absurd tells
 refusal_is_told k kinds (words_fault.Words text status) tells among = (refusal_gives_status k kinds status tells.1 tells.0 among, tells.2)
 
--- the same, given the kind that was read from the error
+-- the same holds, given the kind that was read from the error
 pub refusal_told : (k given : ErrorKind) (kinds : Kinds) (fault : WordsFault) → given ≡ k → TellsRefusal given fault → (k ≡ kind.OutOfMemory) ⊎ IsAmong k kinds → IsToldOf kinds fault
 refusal_told k given kinds fault same tells among = refusal_is_told k kinds fault (subst (λ x. TellsRefusal x fault) same tells) among
 

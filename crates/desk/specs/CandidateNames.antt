@@ -5,11 +5,11 @@ use Rattle.clap.specs.Words.{Text}
 use Rattle.register.specs.Offices.{CandidateEntry}
 use Rattle.desk.specs.declared.candidate_names.NamesByNumber.{NamesByNumber}
 
--- the candidate with a given number
+-- the candidate with the given number
 abbrev pub candidate_in : List CandidateEntry → ℕ → Option CandidateEntry
 candidate_in candidates number = find (λ (c : CandidateEntry). c.number == number) candidates
 
--- the name of the candidate with a given number; empty if there is none
+-- the name of the candidate with the given number; empty if there is none
 abbrev pub name_of : List CandidateEntry → ℕ → Text
 name_of candidates number = unwrap_or (option_map (λ (c : CandidateEntry). c.name) (candidate_in candidates number)) []
 
@@ -17,7 +17,7 @@ name_of candidates number = unwrap_or (option_map (λ (c : CandidateEntry). c.na
 unfoldable pub names_of : List CandidateEntry → List Text
 names_of candidates = map (name_of candidates) (range_with_len 0 31)
 
--- the name for a number in such a list
+-- the name for the given number in a list of names
 abbrev pub name_in : List Text → ℕ → Text
 name_in names number = unwrap_or (slice_get names number) []
 

@@ -1,14 +1,14 @@
--- Files, and their bytes as far as they are known.
+-- Files, and their bytes if they are known.
 use Rattle.std.specs.Prelude.{◌≡◌, ℕ, List, Option, Some, None, IfSome}
 use Rattle.clap.specs.Words.{Text}
 use Rattle.keyfile.specs.Digests.{IsReadAs}
 use Rattle.keyfile.specs.Reading.{Known}
 
--- a file that is named: None if it can't be opened, otherwise its bytes, as far as they are known
+-- a named file: None if it can't be opened, otherwise its bytes, if they are known
 abbrev pub File : Type 0
 File = Option (Option (List ℕ))
 
--- the file at each path, as far as it is known
+-- the file at each path, if it is known
 abbrev pub Folder : Type 0
 Folder = Text → Option File
 

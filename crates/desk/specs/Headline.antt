@@ -15,7 +15,7 @@ use Rattle.desk.specs.Pages.{Cut, Page, below, cut_below, empty_page, failed, fr
 use Rattle.desk.specs.declared.{lines.Failure.TheVariants.Office, orders.Job.Job, orders.Task.Task, scripts.ScriptStep.ScriptStep}
 use Rattle.desk.specs.declared.orders.Task.TheVariants as task
 
--- The outcome of a list of requests: the requests themselves, how many of them were answered, the page that reports this, and how much of that page was written.
+-- The outcome of a list of requests: the requests themselves, how many of them were answered, the page printed for them, and how much of that page was written.
 pub record Course : Type 0 where
   pub requests : List Request
   pub answered : ℕ
@@ -26,12 +26,14 @@ pub record Course : Type 0 where
 abbrev pub told_above : List Request → Page → Course → Course
 told_above own page rest = record { requests = own ++ rest.requests; answered = rest.answered + length own; page = below page rest.page; cut = cut_below page.out rest.cut }
 
--- The sequence ends here: this many of these requests were answered, and this page is the last one, prefixed by the number of the script's line.
+-- The sequence ends here: the given number of the requests were answered, and the given page is the last one, with the script's line number, if any, as its
+-- prefix.
 abbrev pub ended : Option ℕ → List Request → ℕ → Page → Cut → Course
 ended line requests answered page cut = record { requests = requests; answered = answered; page = fronted line page; cut = cut }
 
--- The machine's answer to a request in the given state, as a page of the errand that sends the request. The page has status 0 and the reply, or status 1 and the
--- reason for the refusal. A reply to a request that was accepted earlier with different content comes with a note that nothing was changed.
+-- The machine's answer to a request in the given state, as a page of the errand that sends the request. The page has status 0 and contains the reply, or it has
+-- status 1 and contains the reason for the refusal. A reply to a request that was accepted earlier with different content comes with a note saying that nothing was
+-- changed.
 abbrev pub answer : (OfficeState → Request → Told → Page) → OfficeState → Request → Page
 answer tells s r = tells s r (told_of (step_of s r))
 
@@ -49,8 +51,8 @@ module _ (old : State) (closed : Bool) (st : State) where
       ((answered ≡ 1) × (page ≡ answer tells s r) × IsOpenAt (after_one s r) closed st)
       ⊎ ((answered ≡ 0) × IsFailed (λ fault. (FailsBy old st fault ⊎ (is_accepted (step_of s r) ≡ true)) × (IsKeptOpen s fault closed st ⊎ IsClosedIn s (step_of s r) fault closed st)) page)
 
-  -- Requests are sent one after another, each after a page that was written completely and doesn't end the sequence. After the last one `Then` holds. Otherwise the
-  -- sequence ends early.
+  -- Requests are sent one after another, each after a page that was written completely and doesn't end the sequence. After the last request, `Then` holds.
+  -- Otherwise the sequence ends early.
   abbrev pub IsSent : Bool → Option ℕ → (OfficeState → Request → Told → Page) → (OfficeState → Course → Type 0) → OfficeState → List Request → Course → Type 0
   IsSent keep line tells Then s [] course = Then s course
   IsSent keep line tells Then s (r ∷ rs) course =
@@ -61,13 +63,14 @@ module _ (old : State) (closed : Bool) (st : State) where
   abbrev pub IsStopped : OfficeState → Page → Type 0
   IsStopped s page = IsFailed (λ fault. FailsBy old st fault × (IsKeptOpen s fault closed st ⊎ IsClosedReading s fault closed st)) page
 
-  -- Nothing is sent, and the page satisfies `Tells`. After it `Then` holds, or the sequence ends with the office open in its state. Or the page reports a fault.
+  -- Nothing is sent, and the page satisfies `Tells`. After it, `Then` holds, or the sequence ends with the office open in the same state. Or the page reports a
+  -- fault.
   abbrev pub IsUnsent : Bool → Option ℕ → (Page → Type 0) → (Course → Type 0) → OfficeState → Course → Type 0
   IsUnsent keep line Tells Then s course =
       ((page : Page) × (rest : Course) × Tells page × (goes_on keep page.status ≡ true) × (course ≡ told_above [] (fronted line page) rest) × Then rest)
       ⊎ ((page : Page) × (cut : Cut) × (course ≡ ended line [] 0 page cut) × (goes_on keep page.status ≡ true → cut ≢ uncut) × ((Tells page × IsOpenAt s closed st) ⊎ IsStopped s page))
 
-  -- Steps are run one after another, each with the file that is at its path when the step runs. Either all requests of a step are sent; or none is, and the page
+  -- Steps are run one after another, each with the file that is at its path when the step runs. Either all requests of a step are sent; or none are, and the page
   -- answers the step's question or says why its file is refused.
   abbrev pub IsPlayed : Bool → Folder → OfficeState → List ScriptStep → Course → Type 0
   IsPlayed keep folder s [] course = (course ≡ ended None [] 0 empty_page uncut) × IsOpenAt s closed st
@@ -76,8 +79,8 @@ module _ (old : State) (closed : Bool) (st : State) where
       × (((requests : List Request) × Sends s turn.errand file requests × IsSent keep turn.line (page_answered turn.errand) (λ next. IsPlayed keep folder next turns) s requests course)
       ⊎ IsUnsent keep turn.line (IsTold s turn.errand file) (IsPlayed keep folder s turns) s course)
 
-  -- A job is done in the open office: its steps are run, continuing after refusals with `keep_going`. Or the page says why its text isn't a script. Or the page
-  -- reports a fault.
+  -- A job is done in the open office: its steps are run; with `keep_going`, the job continues after refusals. Or the page says why the job's text isn't a script. Or the
+  -- page reports a fault.
   abbrev pub IsDone : Folder → OfficeState → Job → Course → Type 0
   IsDone folder s job course = ((turns : List ScriptStep) × HasSteps folder job turns
       × IsPlayed (keeps_going job) folder s turns course) ⊎ IsUnsent false None (IsNoScript folder job) (λ rest. ⊥) s course
@@ -86,16 +89,16 @@ module _ (old : State) (closed : Bool) (st : State) where
 abbrev pub IsUntouched : (Page → Type 0) → OfficeState → Course → State → Type 0
 IsUntouched Tells s course new = (page : Page) × (cut : Cut) × (course ≡ ended None [] 0 page cut) × Tells page × LeavesState new (λ x. x ≡ s)
 
--- The outcome of a task for an office in the given state. `init` creates no second office. For `migrate`, the office already has this version. For any other task,
--- its job is done in the office; or the office isn't opened, and the page reports a fault, with its cause.
+-- The outcome of a task for an office in the given state. `init` doesn't create a second office. For `migrate`, the office already has this version. For any other
+-- task, its job is done in the office; or the office isn't opened, and the page reports a fault, with its cause.
 abbrev pub Performs : Folder → OfficeState → Task → Course → State → State → Type 0
 Performs folder s task.Init course old new = IsUntouched (λ page. page ≡ failed (Office WrongDatabase)) s course new
 Performs folder s task.Migrate course old new = IsUntouched (λ page. (page ≡ replied (migrated_text Already)) ⊎ IsFailed IsMemoryOrStore page) s course new
 Performs folder s (task.InOffice job) course old new = ((closed : Bool) × IsDone old closed new folder s job course) ⊎ IsUntouched (IsFailed (FailsBy old new)) s course new
 
--- The contract of a task: this many of its requests were answered, as its page says. If earlier requests led to the office's state, the state after a stop is the
--- one after the accepted requests in a prefix of the earlier requests followed by these. The prefix contains each earlier and each answered request, and at most one
--- more. With status 0 all requests were answered.
+-- The contract of a task: the given number of its requests were answered, as its page says. If earlier requests led to the office's state, the state after a stop
+-- is the one after the accepted requests in a prefix of the earlier requests followed by the task's. The prefix contains each earlier and each answered request, and
+-- at most one more. If the status is 0, all requests were answered.
 pub record IsPerformed (folder : Folder) (s : OfficeState) (task : Task) (cut : Cut) (page : Page) (ends : ℕ) (old new : State) : Type 0 where
   pub requests : List Request
   pub answered : ℕ
@@ -103,16 +106,16 @@ pub record IsPerformed (folder : Folder) (s : OfficeState) (task : Task) (cut : 
   pub keeps : (earlier : List Request) → s ≡ after empty_office earlier → Keeps earlier requests answered new
   pub all : ends ≡ 0 → answered ≡ length requests
 
--- In an empty database an office is created; or the page reports a fault, and after a stop the database contains nothing or the empty office. If the database has a
--- table with one of our names, no office is created.
+-- An office is created in an empty database; or the page reports a fault, and after a stop the database contains nothing or the empty office. If the database has
+-- a table with one of our names, no office is created.
 pub record Makes (page : Page) (old new : State) : Type 0 where
   pub made : IsBlank old → ((page ≡ replied (codes "office ready")) × IsAt empty_office new)
       ⊎ IsFailed (λ fault. IsMemoryOrStore fault × ((trees : Trees) → new.may_leave trees → old.may_leave trees ⊎ Stores (tables_of empty_office) trees)) page
   pub taken : (db : Database) → RestsAt db old → has_some_table db.schema ≡ true → (page ≡ failed (Office WrongDatabase)) × OnlyReads old new
 
 -- An office created by an earlier version is migrated with exactly the state that it had, or the page reports a fault. After a stop, the database contains either
--- the older tables of that state or the tables of this version. If there is no office of either version, the page reports the fault for the database, and a stop can
--- leave only what it could have left before.
+-- that state's older tables or its tables in this version. If there is no office of either version, the page reports the fault for the database, and a stop can
+-- leave only what it could have left before the order.
 pub record BringsOver (page : Page) (old new : State) : Type 0 where
   pub older : (form : OlderForm) (s : OfficeState) → RestsOlder form s old → LeavesOldOrNew form s old new × (((page ≡ replied (migrated_text Done)) × IsAt s new) ⊎ IsFailed IsMemoryOrStore page)
   pub beyond : (db : Database) → IsOurs db.schema → IsOlderSchema db.schema → RestsAt db old → HoldsNoState db → HoldsNoOlder db

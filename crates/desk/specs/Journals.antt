@@ -23,7 +23,7 @@ use Rattle.desk.specs.declared.scripts.ScriptStep.{ScriptStep}
 abbrev pub AreSent : List ScriptStep → List Request → Type 0
 AreSent turns requests = map (λ (turn : ScriptStep). turn.errand) turns ≡ map (λ (request : Request). errand.Send request) requests
 
--- The text is a script of these requests, one per line.
+-- The text is a script of the given requests, one per line.
 pub record IsScriptOf (text : Text) (requests : List Request) : Type 0 where
   pub turns : List ScriptStep
   pub script : AreTurns (script_lines text) turns
@@ -34,7 +34,7 @@ pub record IsScriptOf (text : Text) (requests : List Request) : Type 0 where
 abbrev pub IsJournalOf : OfficeState → Text → Type 0
 IsJournalOf s text = (requests : List Request) × IsScriptOf text requests × LeadTo requests s
 
--- The page for an office in the given state: a journal of it; or that there is none; or a fault, because an allocation or a store failed.
+-- The page for an office in the given state: a journal of it; a message that there is none; or a fault, because an allocation or a store failed.
 abbrev pub IsJournalTold : OfficeState → Page → Type 0
 IsJournalTold s page = ((text : Text) × (page ≡ printed text) × IsJournalOf s text) ⊎ ((page ≡ unjournalled) ⊎ IsFailed IsMemoryOrStore page)
 

@@ -1,4 +1,4 @@
--- The mathematical values that a script's values in the program represent.
+-- The mathematical values that the program's values for a script represent.
 use Rattle.std.specs.Prelude.{◌≡◌, ◌⊎◌, ⊤, Bool, List, [], None, Result, Ok, Err, map, option_map}
 use Rattle.std.specs.Borrow.{Bor}
 use Rattle.std.specs.declared.vec.Vec.{Vec}
@@ -36,12 +36,12 @@ said_words (Err why) = Err why
 abbrev pub typed_line_entry : TypedLine → Typed
 typed_line_entry said = record { number = said.number; words = said_words said.words }
 
--- the fault says what is wrong with a line, or that an allocation failed
+-- the fault says what is wrong with the given line, or that an allocation failed
 abbrev pub IsFaultOfLine : Typed → ScriptFault → Type 0
 IsFaultOfLine line fault.Memory = ⊤
 IsFaultOfLine line (fault.ScriptLine number flaw) = (line.number ≡ number) × IsFlawOf line.words flaw
 
--- the fault says what is wrong with the first of these lines that isn't a step, or that an allocation failed
+-- the fault says what is wrong with the first line that isn't a step, or that an allocation failed
 abbrev pub IsFaultOfLines : List Typed → ScriptFault → Type 0
 IsFaultOfLines lines fault.Memory = ⊤
 IsFaultOfLines lines (fault.ScriptLine number flaw) = IsFirstFlaw lines number flaw

@@ -5,7 +5,7 @@ use Rattle.clap.specs.ValueTests.{accepts}
 use Rattle.clap.specs.Words.{Text}
 use Rattle.clap.specs.declared.builder.value_parser.ValueParser.TheVariants as parser
 
--- whether a text is a number from 0 to 4294967295 in digits, optionally preceded by a plus sign
+-- whether a text is a number from 0 to 4294967295 written in digits, optionally preceded by a plus sign
 abbrev pub is_number : Text → Bool
 is_number t = accepts false (parser.Unsigned 0 4294967295) t
 

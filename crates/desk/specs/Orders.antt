@@ -58,7 +58,7 @@ number name = record { name = name; kind = kind.Number }
 abbrev pub number_or_none : Text → WordEntry
 number_or_none name = record { name = name; kind = kind.NumberOrNone }
 
--- a word that is a port, and an optional word that is a number of connections
+-- a word that is a port, and an optional word that is the number of connections
 abbrev pub port : Text → WordEntry
 port name = record { name = name; kind = kind.Port }
 
@@ -81,7 +81,7 @@ id = record { name = codes "id"; kind = kind.Id }
 abbrev pub origin : Text → WordEntry
 origin name = record { name = name; kind = kind.Origin }
 
--- the path of a file of codes after `--` and the word's name, optional
+-- the path of a codes file after `--` and the word's name, optional
 abbrev pub codes_file : WordEntry
 codes_file = record { name = codes "codes"; kind = kind.CodesFile }
 
@@ -163,8 +163,8 @@ by_clerk clerk id asked = record { actor = clerk; id = id; asked = asked }
 
 -- ---- what an order means
 
--- What is to be done; or nothing. Nothing is done if a verdict, an origin or a digest is invalid, if a title is given although nothing is shown in public, or if the
--- words after `forms` name no form.
+-- what the words request; or nothing, because a verdict, an origin or a digest is invalid, a title is given although nothing is shown in public, or the words after
+-- `forms` name no form
 pub data Meant : Type 0 where
   make : Meant
   migrate : Meant
@@ -193,7 +193,7 @@ pub data Meant : Type 0 where
   title_alone : Meant
   no_form : Meant
 
--- the meaning of printing a text of a ward; the title of a page is represented as text
+-- the meaning of printing one of a ward's texts; the title of a page is represented as text
 abbrev pub told_text : ℕ → WardText → Meant
 told_text ward (ward_text.Page title) = print_page ward title.now
 told_text ward text = print ward text
@@ -233,7 +233,7 @@ task_of other = None
 
 -- ---- the orders
 
--- the type of the values of a word
+-- the type of a word's values
 abbrev pub WordValue : Kind → Type 0
 WordValue kind.Number = ℕ
 WordValue kind.NumberOrNone = Option ℕ
@@ -251,27 +251,27 @@ WordValue kind.Texts = List Text
 WordValue kind.Options = List Text
 WordValue kind.Flag = Bool
 
--- a function of the values of some words, in order
+-- a function of the values of the given words, in order
 abbrev pub OfWords : List WordEntry → Type 0 → Type 0
 OfWords [] T = T
 OfWords (w ∷ ws) T = WordValue w.kind → OfWords ws T
 
--- an order's name and words, its meaning as a function of the values of its words, and whether that meaning is a command of the office
+-- an order's name and words, its meaning as a function of the values of its words, and whether that meaning is a command from the office
 pub record OrderEntry : Type 0 where
   pub typed : OrderWords
   pub means : OfWords typed.words Meant
   pub is_command : Bool
 
--- an order with this name and these words, in order, and with this meaning as a function of their values
+-- an order with the given name and the given words, in order, and with the given meaning as a function of their values
 abbrev pub takes : Text → (words : List WordEntry) → OfWords words Meant → OrderEntry
 takes name words means = record { typed = record { name = name; words = words }; means = means; is_command = false }
 
--- the office sends a command, made from the values of some words, under the id that follows those words
+-- the office sends a command, made from the values of the given words, under the id that follows them
 abbrev pub under_id : (words : List WordEntry) → OfWords words Asked → OfWords (words ++ id ∷ []) Meant
 under_id [] asked = λ id. send (by_office id asked)
 under_id (w ∷ ws) asked = λ value. under_id ws (asked value)
 
--- an order with this name, these words and an id, which sends a command of the office
+-- an order with the given name, the given words and an id, which sends a command from the office
 abbrev pub sends : Text → (words : List WordEntry) → OfWords words Asked → OrderEntry
 sends name words asked = record { typed = record { name = name; words = words ++ id ∷ [] }; means = under_id words asked; is_command = true }
 
@@ -285,7 +285,7 @@ public_of true title = Some (Some title)
 public_of false [] = Some None
 public_of false (c ∷ cs) = None
 
--- what this means, or that a title is given although nothing is shown in public
+-- the given meaning, or that a title is given although nothing is shown in public
 abbrev pub shown_as : Option (Option Text) → (Option Text → Meant) → Meant
 shown_as None means = title_alone
 shown_as (Some public) means = means public

@@ -1,4 +1,4 @@
--- Overviews, one line each: the wards, the batches of a ward, how each paper of a batch counts, the doubtful papers of a ward, the differences in a batch, and the
+-- Overviews, one line each: the wards, a ward's batches, how each paper in a batch counts, a ward's doubtful papers, the differences in a batch, and the
 -- receipts.
 use Rattle.std.specs.Prelude.{ℕ, Bool, true, false, ◌==◌, ◌+◌, ◌-◌, ◌++◌, ◌∷◌, if◌then◌else◌, List, [], Option, Some, None, codes, length}
 use Rattle.std.specs.Fmt.{decimal}
@@ -32,7 +32,7 @@ seats_words v = codes "ward " ++ (decimal v.ward.number ++ (codes " " ++ (phase_
 unfoldable pub untaken_words : WardView → Text
 untaken_words v = decimal v.status.candidates ++ (codes " candidates, " ++ (decimal v.status.batches ++ (codes " batches, " ++ (decimal (v.status.batches - v.status.taken) ++ codes " not taken"))))
 
--- how many batches differ, how many doubtful papers are open, and how many stages are counted
+-- how many batches differ, how many doubtful papers are open, and how many stages have been counted
 unfoldable pub open_words : WardView → Text
 open_words v = decimal v.status.differing ++ (codes " differing, " ++ (decimal v.status.doubtful_open ++ (codes " doubtful open, " ++ (decimal v.status.stages ++ codes " stages"))))
 
@@ -60,7 +60,7 @@ keyed_word false = codes "not keyed"
 unfoldable pub clerk_words : ℕ × Bool → Text
 clerk_words c = codes ", clerk " ++ (decimal c.0 ++ (codes " " ++ keyed_word c.1))
 
--- the word for its status
+-- the word for the batch's status
 abbrev pub standing_word : BatchStanding → Text
 standing_word Taken = codes "taken"
 standing_word Differing = codes "differing"
@@ -86,12 +86,12 @@ parting number = if number == 1 then [] else codes ", "
 unfoldable pub preference_words : ℕ → Text → Text
 preference_words number name = parting number ++ (decimal number ++ (codes " " ++ name))
 
--- preferences starting with a number, with the candidates' names: `1 Ann, 2 Cy`
+-- preferences starting with the given number, with the candidates' names: `1 Ann, 2 Cy`
 abbrev pub preferences_from : List Text → ℕ → List ℕ → Text
 preferences_from names number [] = []
 preferences_from names number (c ∷ cs) = preference_words number (name_in names c) ++ preferences_from names (number + 1) cs
 
--- the reason why a paper is rejected, by its code
+-- the reason why a paper is rejected, given its code
 abbrev pub rejection_words : ℕ → Text
 rejection_words code =
     if code == 1 then codes "no first preference" else (
@@ -112,7 +112,7 @@ paper_line names v = codes "batch " ++ (decimal v.batch ++ (codes " paper " ++ (
 
 -- ---- a doubtful paper
 
--- the verdict on a doubtful paper: accepted with these marks, and how it counts with them; or rejected with this code
+-- the verdict on a doubtful paper: accepted with the given marks, and how it counts with them; or rejected with the given code
 unfoldable pub verdict_words : List Text → Judgement → Option JudgedEntry → Text
 verdict_words names judgement None = codes "open"
 verdict_words names judgement (Some v) = if v.code == 0 then codes "accepted " ++ (v.marks ++ (codes ": " ++ judgement_words names judgement)) else codes "rejected " ++ decimal v.code
@@ -124,7 +124,7 @@ doubtful_line names v =
 
 -- ---- differences, and receipts
 
--- the line that says on which papers of a batch the keyings differ
+-- the line that lists the papers on which a batch's keyings differ
 unfoldable pub differences_line : DifferencesView → Text
 differences_line v = codes "batch " ++ (decimal v.batch.number ++ (codes " round " ++ (decimal v.batch.round ++ (codes " differs on papers " ++ listed v.papers))))
 
@@ -138,7 +138,7 @@ receipt_line r = codes "actor " ++ (decimal r.actor ++ (codes " id " ++ (r.id ++
 abbrev pub lines_of : {X : Type 0} → (X → Text) → List X → Text
 lines_of text xs = flat_map (λ x. line (text x)) xs
 
--- how each paper of a batch counts, and the doubtful papers of a ward, with the names of the ward's candidates
+-- how each paper in a batch counts, and a ward's doubtful papers, with the names of the ward's candidates
 unfoldable pub paper_lines : PapersView → Text
 paper_lines v = lines_of (paper_line (names_of v.candidates)) v.papers
 

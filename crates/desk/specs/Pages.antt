@@ -82,7 +82,7 @@ failure_of uncopied.Taken = CopyTaken
 failure_of (uncopied.Copy fault.Memory) = Office fault.Memory
 failure_of (uncopied.Copy other) = CopyFailed
 
--- the status for a refused file: that of a fault if reading the file was stopped
+-- the status for a refused file: that of a fault if reading the file stopped early
 abbrev pub status_of_file : FileFault → ℕ
 status_of_file fault = if is_stop fault.flaw then 3 else 1
 
@@ -96,11 +96,11 @@ empty_page = record { out = []; err = []; status = 0 }
 abbrev pub printed : Text → Page
 printed text = record { out = text; err = []; status = 0 }
 
--- a reply, on a line
+-- a reply, printed on its own line
 abbrev pub replied : Text → Page
 replied text = printed (line text)
 
--- a refusal, on a line of the error output
+-- a refusal, printed on its own line to the error output
 abbrev pub refused : Reason → Page
 refused why = record { out = []; err = numbered_line (codes "refused ") (reason_number why) (reason_text why); status = 1 }
 
@@ -125,11 +125,11 @@ codes_page fault = record {
   status = 1;
 }
 
--- the page that says that codes were made for this many clerks
+-- the page that says that codes were made for the given number of clerks
 abbrev pub codes_made_page : ℕ → Page
 codes_made_page count = printed (joined (codes "codes written: " ∷ decimal count ∷ codes "\n" ∷ []))
 
--- the page that says that codes were made for this many clerks, and one for the office
+-- the page that says that codes were made for the given number of clerks, and one for the office
 abbrev pub codes_and_office_made_page : ℕ → Page
 codes_and_office_made_page count = printed (joined (codes "codes written: " ∷ decimal count ∷ codes ", and the office's\n" ∷ []))
 
@@ -145,7 +145,7 @@ closed_page = failed (Office fault.Closed)
 abbrev pub unjournalled : Page
 unjournalled = record { out = []; err = line (codes "no journal: what was written does not make this office"); status = 1 }
 
--- the page that says that a ward wasn't sealed: this many papers were given out, and a different number was expected
+-- the page that says that a ward wasn't sealed, how many papers were given out, and that a different number was expected
 abbrev pub unsealed : ℕ → ℕ → Page
 unsealed given_out expected = record {
   out = [];
@@ -170,7 +170,7 @@ unmended text = record { out = []; err = text; status = 1 }
 abbrev pub note_line : Text → Text
 note_line id = joined (codes "note: " ∷ id ∷ codes " was kept before with other words; nothing was changed\n" ∷ [])
 
--- a reply, on a line, and that note on the error output
+-- a reply, on its own line, and that note on the error output
 abbrev pub noted : Text → Text → Page
 noted id reply = record { out = line reply; err = note_line id; status = 0 }
 
@@ -184,21 +184,21 @@ page_for s r (done reply) = replied reply
 page_for s r (again reply) = page_kept (string_bytes r.id) reply (is_kept_otherwise s r)
 page_for s r (no why) = refused why
 
--- Why a count doesn't continue. That no seat is left to fill, and that a lot is needed, are replies. So is, after the first request, that the ward was declared in
--- the meantime.
+-- Why a count doesn't continue. The reason is printed as a reply if no seat is left to fill or if a lot is needed, and, after the first request, if the ward was
+-- declared in the meantime.
 abbrev pub page_at_rest : Bool → Reason → Page
 page_at_rest is_first CountFinished = replied (codes "count finished")
 page_at_rest is_first (LotNeeded stage tied) = replied (reason_text (LotNeeded stage tied))
 page_at_rest is_first WrongPhase = if is_first then refused WrongPhase else replied (codes "count finished")
 page_at_rest is_first why = refused why
 
--- what is printed for the machine's answer to a request for one more stage
+-- what is printed for the machine's answer to a request for another stage
 abbrev pub page_counted : Bool → Told → Page
 page_counted is_first (done reply) = replied reply
 page_counted is_first (again reply) = replied reply
 page_counted is_first (no why) = page_at_rest is_first why
 
--- what was found in the given state, or why there is nothing
+-- what was found in the given state, or why nothing was found
 abbrev pub page_found : {X : Type 0} → (X → Page) → Result X Reason → Page
 page_found page (Ok x) = page x
 page_found page (Err why) = refused why
@@ -231,7 +231,7 @@ page_of (outcome.Unsealed given_out expected) = unsealed given_out expected
 page_of (outcome.Unformed why) = unformed why
 page_of (outcome.Unmended text) = unmended (string_bytes text)
 
--- the page that says why words aren't an order: help is printed on the output, and what is wrong with the words on the error output
+-- the page that says why words aren't an order: help is printed to the output, and what is wrong with the words to the error output
 abbrev pub words_page : WordsFault → Page
 words_page words.Memory = failed (Office fault.Memory)
 words_page words.Origin = record { out = []; err = bad_origin; status = 2 }
@@ -241,9 +241,9 @@ words_page words.Form = record { out = []; err = bad_form; status = 2 }
 words_page words.Verdict = record { out = []; err = codes "bad verdict word\n"; status = 2 }
 words_page (words.Words text status) = if status == 0 then printed (string_bytes text) else record { out = []; err = string_bytes text; status = status }
 
--- ---- pages of a script's lines
+-- ---- pages for a script's lines
 
--- the prefix of what is printed about a script's line: its number
+-- the prefix of what is printed for a script's line: the line number
 abbrev pub line_front : Option ℕ → Text
 line_front None = []
 line_front (Some number) = joined (codes "line " ∷ decimal number ∷ codes ": " ∷ [])
@@ -253,7 +253,7 @@ abbrev pub after_prefix : Text → Text → Text
 after_prefix front [] = []
 after_prefix front (byte ∷ bytes) = front ++ (byte ∷ bytes)
 
--- a page; if it is that of a script's line, the line number precedes what is printed on the error output
+-- a page; if it is for a script's line, the line number precedes what is printed to the error output
 abbrev pub fronted : Option ℕ → Page → Page
 fronted None page = page
 fronted (Some number) page = record { out = page.out; err = after_prefix (line_front (Some number)) page.err; status = page.status }
@@ -269,7 +269,7 @@ script_page (script.ScriptLine number flaw) = record { out = []; err = line_fron
 abbrev pub goes_on : Bool → ℕ → Bool
 goes_on keep status = status == 0 || (keep && status == 1)
 
--- the combined status after one more status: the last nonzero one, or 0
+-- the combined status after another status: the last nonzero one, or 0
 abbrev pub combined_status : ℕ → ℕ → ℕ
 combined_status before status = if status == 0 then before else status
 
@@ -286,7 +286,7 @@ pub record IsPut {W X E : Type 0} (taken : W → Option (List ℕ)) (failed : W 
   pub cut_off : OnErr result (AppendsBeginning (taken old) (taken new) text)
   pub err : OnErr result (failed new ≡ failed old + 1)
 
--- the text was printed on the error output, with this status; or a prefix of it was, with status 3
+-- the text was printed to the error output, with the given status; or a prefix of it was, with status 3
 abbrev pub IsErrorTold : {E : Type 0} → (E → Option (List ℕ)) → (E → ℕ) → E → E → Text → ℕ → ℕ → Type 0
 IsErrorTold taken failed old new text wanted status =
     (Appends (taken old) (taken new) text × (failed new ≡ failed old) × (status ≡ wanted))
@@ -294,7 +294,7 @@ IsErrorTold taken failed old new text wanted status =
 
 -- ---- how much of a page was printed
 
--- the two outputs: the bytes written to each, as far as they are known, and how many of its calls failed
+-- the two outputs: the bytes written to each, if they are known, and how many of its calls failed
 pub record Outputs : Type 0 where
   pub out : Option (List ℕ)
   pub out_failed : ℕ
@@ -334,7 +334,7 @@ pub record IsErrorOutputBroken (old new : Outputs) (page : Page) (status : ℕ) 
   pub err_failed : new.err_failed ≡ old.err_failed + 1
   pub ends : status ≡ 3
 
--- a page was written to this extent
+-- a page was written up to the given point
 abbrev pub IsShown : Cut → Outputs → Outputs → Page → ℕ → Type 0
 IsShown uncut old new page status = IsWhole old new page status
 IsShown (cut_behind took) old new page status = IsOutputBroken took old new page status
@@ -350,7 +350,7 @@ cut_below text uncut = uncut
 cut_below text (cut_behind took) = cut_behind (text ++ took)
 cut_below text cut_error = cut_error
 
--- some page that satisfies a predicate was printed, as the page of a script's line or on its own
+-- some page that satisfies a predicate was printed, as the page for a script's line or on its own
 pub record TellsOf (line : Option ℕ) (old new : Outputs) (status : ℕ) (P : Cut → Page → Type 0) : Type 0 where
   pub page : Page
   pub cut : Cut

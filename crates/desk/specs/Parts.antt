@@ -23,7 +23,7 @@ use Rattle.desk.specs.declared.orders.ExpectedSeal.{ExpectedSeal}
 use Rattle.desk.specs.declared.orders.KeyingFile.{KeyingFile}
 use Rattle.desk.specs.declared.orders.Question.{Question}
 
--- an outcome with this page, written to this extent, satisfies P for some requests, some number of which were answered
+-- an outcome with the given page, written up to the given point, satisfies P for some requests and some number of answered ones
 abbrev pub ComesTo : Cut → Page → (Course → Type 0) → Type 0
 ComesTo cut page P = (requests : List Request) × (answered : ℕ) × P (record { requests = requests; answered = answered; page = page; cut = cut })
 
@@ -31,17 +31,17 @@ ComesTo cut page P = (requests : List Request) × (answered : ℕ) × P (record 
 abbrev pub IsOver : Bool → State → OfficeState → Course → Type 0
 IsOver closed st s course = (course ≡ ended None [] 0 empty_page uncut) × IsOpenAt s closed st
 
--- The outcome of a request for one more stage, which is the first one or a later one, and whether the count continues after it. The count continues if the machine
+-- The outcome of a request for another stage, whether it is the first or a later one, and whether the count continues after it. The count continues if the machine
 -- doesn't refuse the request and there is no fault.
 abbrev pub IsStage : State → Bool → State → Bool → OfficeState → Request → Page → Bool → Type 0
 IsStage old closed st first s r page goes = (answered : ℕ) × IsAnswered old closed st (λ t q. page_counted first) s r answered page × (goes ≡ (answered == 1 && not (is_refused (step_of s r))))
 
--- the stages of a ward were counted by the requests of an order with this id, starting with the first
+-- a ward's stages were counted by the requests of an order with the given id, starting with the first request
 abbrev pub IsCounted : State → Bool → State → Bool → Option ℕ → OfficeState → ℕ → Text → Course → Type 0
 IsCounted old closed st keep line s ward id course =
     (requests : List Request) × AreAdvances s ward id 1 requests × IsSent old closed st keep line (λ t r. page_counted (is_first id r)) (IsOver closed st) s requests course
 
--- the page shows what is found in the given state, or says why there is nothing; or it reports a fault
+-- the page shows what is found in the given state, or says why nothing is found; or it reports a fault
 abbrev pub IsFound : {X : Type 0} → OfficeState → (X → Page) → Result X Reason → Page → Bool → State → State → Type 0
 IsFound s shown found page closed old st = ((page ≡ page_found shown found) × IsOpenAt s closed st) ⊎ IsStopped old closed st s page
 

@@ -41,19 +41,19 @@ file_of_task task.Migrate = None
 file_of_task (task.InOffice (job.Run errand)) = file_of errand
 file_of_task (task.InOffice (job.Replay file keep_going)) = Some file.now
 
--- the request id for the record with this number: the order's id, a hyphen, and the number
+-- the request id for the record with the given number: the order's id, a hyphen, and the number
 unfoldable pub id_at : Text → ℕ → Text
 id_at id k = id ++ (codes "-" ++ decimal k)
 
--- a record of candidates requests the addition of its candidate
+-- a candidate record requests that its candidate be added
 abbrev pub candidate_asked : CandidateEntry → Asked
 candidate_asked c = candidate_to_add c.0 c.1 c.2
 
--- a record of batches requests that its batch be given out
+-- a batch record requests that its batch be given out
 abbrev pub batch_asked : BatchRowEntry → Asked
 batch_asked b = batch_to_add b.batch b.ward b.size b.first_clerk b.second_clerk
 
--- the requests for rows whose records are numbered from `k` on, given what each row asks for
+-- the requests for rows whose records are numbered from `k`, given what each row asks for
 abbrev pub requests_from : {Row : Type 0} → (Row → Asked) → Text → ℕ → List Row → List Sent
 requests_from asked id k [] = []
 requests_from asked id k (row ∷ rows) = by_office (id_at id k) (asked row) ∷ requests_from asked id (suc k) rows
@@ -67,23 +67,23 @@ requests_for asked id (Err fault) = Err fault
 abbrev pub keying_by : KeyingFile → List Text → Sent
 keying_by k papers = by_clerk k.clerk k.id.now (keying_to_keep k.batch k.round papers)
 
--- the single request for the papers of a file
+-- the single request for the papers in a file
 abbrev pub keyings_for : KeyingFile → Result (List Text) FileFault → Result (List Sent) FileFault
 keyings_for k (Ok papers) = Ok (keying_by k papers ∷ [])
 keyings_for k (Err fault) = Err fault
 
--- the file is read as bytes that contain these requests and have the requested digest, if any
+-- the file is read as bytes that contain the given requests and have the requested digest, if any
 abbrev pub HoldsRequests : {Row : Type 0} → Format Row → (Result (List Row) FileFault → Result (List Sent) FileFault) → Option (List ℕ) → File → List Request → Type 0
 HoldsRequests format sent digest file requests = IsReadFrom digest file (λ bytes. sent (file_rows format (file_records bytes)) ≡ Ok (map sent_as requests))
 
--- the file of a clerk's keying of a batch contains these requests, given the columns of the batch, or the reason why it has none
+-- the file with a clerk's keying of a batch contains the given requests; the first argument is the batch's columns, or the reason why it has none
 abbrev pub HoldsKeying : Result (List ℕ) Reason → KeyingFile → File → List Request → Type 0
 HoldsKeying (Ok columns) k file requests = HoldsRequests (keying columns k.batch k.clerk) (keyings_for k) (asked_digest k.digest) file requests
 HoldsKeying (Err why) k file requests = ⊥
 
 -- ---- the stages of a count
 
--- the request that counts a stage of a ward; its number is the one within its order
+-- the request that counts a stage of a ward, numbered within its order
 abbrev pub advance_at : ℕ → Text → ℕ → Sent
 advance_at ward id k = by_office (id_at id k) (stage_to_count ward)
 
@@ -95,13 +95,13 @@ is_first id r = bytes_eq (string_bytes r.id) (id_at id 1)
 abbrev pub advances : ℕ → Text → ℕ → List Sent
 advances ward id n = map (advance_at ward id) (range_with_len 1 n)
 
--- The highest stage that a count can have. There are at most 30 candidates. The first stage is that of the first preferences. Each later one transfers the papers of
--- one candidate, who then needs no further stage: the surplus of an elected candidate, or all papers of an excluded one. So this is also the last stage for which a
--- lot may be drawn.
+-- The highest stage number that a count can have. There are at most 30 candidates. The first stage counts the first preferences. Each later one transfers the
+-- papers of one candidate, who then needs no further stage: the surplus of an elected candidate, or all papers of an excluded one. So this is also the last stage
+-- for which a lot may be drawn.
 abbrev pub last_stage : ℕ
 last_stage = last_lot_stage
 
--- the maximum number of requests in such an order: one more than the number of stages; the last one is refused
+-- the maximum number of requests in an order that counts: one more than the number of stages; the last one is refused
 abbrev pub most_advances : ℕ
 most_advances = last_stage + 1
 
@@ -116,8 +116,8 @@ abbrev pub EndsOr : Bool → List Request → Type 0 → Type 0
 EndsOr true others Follow = others ≡ []
 EndsOr false others Follow = Follow
 
--- requests that count stages of a ward, with consecutive numbers in their order starting from this one, up to the first that the machine refuses, or up to the
--- maximum
+-- requests that count stages of a ward, with consecutive numbers in their order starting from the given number, up to the first request that the machine refuses
+-- or up to the maximum
 abbrev pub AreAdvances : OfficeState → ℕ → Text → ℕ → List Request → Type 0
 AreAdvances s ward id k [] = ⊥
 AreAdvances s ward id k (r ∷ rs) = (sent_as r ≡ advance_at ward id k) × EndsOr (is_refused (step_of s r) || k == most_advances) rs (AreAdvances (after_one s r) ward id (suc k) rs)

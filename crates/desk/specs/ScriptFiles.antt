@@ -16,7 +16,7 @@ listed (Some path) = path ∷ []
 abbrev pub files_of : List ScriptStep → List Text
 files_of turns = flat_map (λ turn. listed (file_of turn.errand)) turns
 
--- These are the paths that a text names: those of its steps if it is a script, or none if something is wrong with a line.
+-- The given paths are the ones that a text names: those of its steps if it is a script, or none if something is wrong with a line.
 abbrev pub AreNamedIn : Text → List Text → Type 0
 AreNamedIn text paths =
     ((turns : List ScriptStep) × AreTurns (script_lines text) turns × (paths ≡ files_of turns))

@@ -49,7 +49,7 @@ is_blank byte = byte == 32 || (byte == 9 || byte == 13)
 abbrev pub is_quote : ℕ → Bool
 is_quote byte = byte == 34 || byte == 39
 
--- whether a line is skipped: it consists of whitespace only, or its first byte that isn't whitespace is #
+-- whether a line is skipped: it consists only of whitespace, or its first non-whitespace byte is #
 abbrev pub passes_over : Text → Bool
 passes_over [] = true
 passes_over (byte ∷ bytes) = if is_blank byte then passes_over bytes else byte == 35
@@ -60,7 +60,7 @@ pub record LexerEntry : Type 0 where
   pub word : Text
   pub place : LexerState
 
--- changes the context of the next byte
+-- the state in which the next byte has the given context
 abbrev pub moved_to : LexerState → LexerEntry → LexerEntry
 moved_to place c = record { words = c.words; word = c.word; place = place }
 
@@ -72,11 +72,11 @@ with_byte c byte = record { words = c.words; word = c.word ++ byte ∷ []; place
 abbrev pub with_word : LexerEntry → LexerEntry
 with_word c = record { words = c.words ++ c.word ∷ []; word = []; place = Between }
 
--- a byte outside quotes that isn't whitespace: a quote opens, and any other byte belongs to the word
+-- a non-whitespace byte outside quotes: a quote opens, and any other byte belongs to the word
 abbrev pub cut_open : LexerEntry → ℕ → LexerEntry
 cut_open c byte = if is_quote byte then moved_to (Quoted byte) c else moved_to Within (with_byte c byte)
 
--- one more byte: inside quotes, each byte up to the same quote belongs to the word; outside quotes, whitespace ends the word
+-- another byte: inside quotes, each byte up to the same quote belongs to the word; outside quotes, whitespace ends the word
 abbrev pub cut_at : LexerState → LexerEntry → ℕ → LexerEntry
 cut_at Between c byte = if is_blank byte then c else cut_open c byte
 cut_at Within c byte = if is_blank byte then with_word c else cut_open c byte
@@ -98,19 +98,19 @@ words_cut c = words_at c.place c
 abbrev pub words_of : Text → Option (List Text)
 words_of line = words_cut (fold cut_byte (record { words = []; word = []; place = Between }) line)
 
--- ---- the lines of a script
+-- ---- a script's lines
 
 -- a line and its number
 pub record Numbered : Type 0 where
   pub number : ℕ
   pub words : Option (List Text)
 
--- the lines that aren't skipped, numbered from `k` on
+-- the lines that aren't skipped, numbered from `k`
 abbrev pub numbered_from : ℕ → List Text → List Numbered
 numbered_from k [] = []
 numbered_from k (line ∷ lines) = if passes_over line then numbered_from (suc k) lines else record { number = k; words = words_of line } ∷ numbered_from (suc k) lines
 
--- the words as typed after the program's name, including DB; or why there are none: a quote isn't closed, or a word isn't UTF-8
+-- the words as typed after the program's name, including DB; or the reason why there are none: a quote isn't closed, or a word isn't UTF-8
 abbrev pub typed : Option (List Text) → Result (List Text) Garbled
 typed None = Err garbled.Quote
 typed (Some words) = if list_all is_utf8 words then Ok (codes "DB" ∷ words) else Err garbled.NotUtf8
@@ -123,7 +123,7 @@ pub record Typed : Type 0 where
 abbrev pub typed_line : Numbered → Typed
 typed_line line = record { number = line.number; words = typed line.words }
 
--- the lines of a script
+-- a script's lines
 abbrev pub script_lines : Text → List Typed
 script_lines text = map typed_line (numbered_from 1 (lines_of text))
 
@@ -144,18 +144,18 @@ abbrev pub is_allowed_in_script : Order → Bool
 is_allowed_in_script (order.Perform (task.InOffice (job.Run errand))) = sends_requests errand
 is_allowed_in_script other = false
 
--- the words mean an order that is allowed in a script, and this is its errand
+-- the words mean an order that is allowed in a script and has the given errand
 pub record Means (words : List Text) (errand : Errand) : Type 0 where
   pub right : wrong_with words ≡ []
   pub means : meaning (subcommand_of office_words words) ≡ Some (told (order.Perform (task.InOffice (job.Run errand))))
   pub sends : sends_requests errand ≡ true
 
--- a line is this step
+-- a line means the given step
 pub record IsStep (line : Typed) (turn : ScriptStep) : Type 0 where
   pub line_number : turn.line ≡ Some line.number
   pub means : IsOkAnd line.words (λ words. Means words turn.errand)
 
--- the lines are these steps, one step per line
+-- the lines mean the given steps, one step per line
 abbrev pub AreTurns : List Typed → List ScriptStep → Type 0
 AreTurns [] turns = turns ≡ []
 AreTurns (line ∷ lines) turns = (turn : ScriptStep) × (others : List ScriptStep) × (turns ≡ turn ∷ others) × IsStep line turn × AreTurns lines others
@@ -185,7 +185,7 @@ line_flaw_text (flaw.Words text) = string_bytes text
 line_flaw_text flaw.Elsewhere = codes "error: this order can't be used in a script\n"
 
 -- what is wrong with the words of a line. Either `clap` accepts them, but a verdict, an origin or a digest is invalid, a title is given although nothing is shown
--- in public, or the words after `forms` name no form. Or it is what `clap` reports for them. Or the order isn't allowed in a script, such as one that asks for help.
+-- in public, or the words after `forms` name no form. Or it is what `clap` reports for them. Or the order, such as one that asks for help, isn't allowed in a script.
 abbrev pub IsFlawOfWords : List Text → LineFlaw → Type 0
 IsFlawOfWords words (flaw.NoWords why) = ⊥
 IsFlawOfWords words flaw.Verdict = (wrong_with words ≡ []) × (meaning (subcommand_of office_words words) ≡ Some no_verdict)
@@ -203,7 +203,7 @@ abbrev pub IsFlawOf : Result (List Text) Garbled → LineFlaw → Type 0
 IsFlawOf (Err why) found = found ≡ flaw.NoWords why
 IsFlawOf (Ok words) found = IsFlawOfWords words found
 
--- this is wrong with the line of number `k`, and nothing is wrong with the lines before it
+-- line number `k` has the given flaw, and nothing is wrong with the lines before it
 abbrev pub IsFirstFlaw : List Typed → ℕ → LineFlaw → Type 0
 IsFirstFlaw [] k found = ⊥
 IsFirstFlaw (line ∷ lines) k found = ((line.number ≡ k) × IsFlawOf line.words found) ⊎ ((turn : ScriptStep) × IsStep line turn × IsFirstFlaw lines k found)

@@ -18,7 +18,7 @@ given_out views = sum (map (λ (v : BatchView). v.batch.size) views)
 abbrev pub seal_request : ExpectedSeal → Sent
 seal_request e = by_office e.id.now (ward_to_seal e.ward)
 
--- the number of papers given out to the batches of a ward is the expected one
+-- the number of papers given out to a ward's batches is the expected one
 abbrev pub AreAsExpected : Result (List BatchView) Reason → ℕ → Type 0
 AreAsExpected (Ok views) papers = given_out views ≡ papers
 AreAsExpected (Err why) papers = ⊥
@@ -27,7 +27,7 @@ AreAsExpected (Err why) papers = ⊥
 abbrev pub IsSealSent : OfficeState → ExpectedSeal → List Request → Type 0
 IsSealSent s e requests = AreAsExpected (batches_answer s e.ward) e.papers × (map sent_as requests ≡ seal_request e ∷ [])
 
--- why the seal isn't sent: more or fewer papers were given out than expected; or the batches of the ward can't be shown, for this reason
+-- why the seal isn't sent: more or fewer papers were given out than expected; or the batches of the ward can't be shown, for the given reason
 abbrev pub IsUnsealed : Result (List BatchView) Reason → ℕ → Page → Type 0
 IsUnsealed (Ok views) papers page = (given_out views ≢ papers) × (page ≡ unsealed (given_out views) papers)
 IsUnsealed (Err why) papers page = page ≡ refused why

@@ -1,4 +1,4 @@
--- What comes next in the election of a ward, in words, with its candidates' names.
+-- What comes next in a ward's election, in words, with its candidates' names.
 use Rattle.std.specs.Prelude.{ℕ, ◌==◌, ◌&&◌, ◌++◌, if◌then◌else◌, List, [], ◌∷◌, codes, Option, Some, None}
 use Rattle.std.specs.Fmt.{decimal}
 use Rattle.std.specs.List.{flat_map}
@@ -24,7 +24,7 @@ with_name number (Some c) = decimal number ++ (codes " " ++ c.name)
 unfoldable pub named : List CandidateEntry → ℕ → Text
 named candidates number = with_name number (candidate_in candidates number)
 
--- one more candidate in a list: `, 3 Cy`
+-- another candidate in a list: `, 3 Cy`
 abbrev pub named_behind : List CandidateEntry → ℕ → Text
 named_behind candidates number = codes ", " ++ named candidates number
 
@@ -59,7 +59,7 @@ due_words stage candidates Finished = codes "the count is finished, the declarat
 unfoldable pub nominations_words : ℕ → ℕ → Text
 nominations_words candidates seats = decimal candidates ++ (codes " candidates for " ++ (decimal seats ++ codes " seats so far, the close of nominations comes next"))
 
--- what the seal waits for: it is due once all batches are taken and all their doubtful papers have a verdict
+-- what the seal is waiting for: it is due once all batches are taken and all their doubtful papers have a verdict
 unfoldable pub seal_words : StatusEntry → Text
 seal_words s =
     if s.batches == 0 then codes "no batch is given out yet" else (if s.taken == s.batches && s.doubtful_open == 0 then codes "the seal comes next"
@@ -73,13 +73,13 @@ taken_words s = decimal s.taken ++ (codes " of " ++ (decimal s.batches ++ (codes
 unfoldable pub papers_words : StatusEntry → Text
 papers_words s = taken_words s ++ (codes ", " ++ (decimal s.doubtful_open ++ (codes " doubtful open, " ++ seal_words s)))
 
--- what comes next, by the phase of the ward
+-- what comes next, depending on the phase of the ward
 unfoldable pub step_words : NextStepEntry → Text
 step_words (nominations_end candidates seats) = nominations_words candidates seats
 step_words (papers_stand s) = papers_words s
 step_words (count_goes stage due candidates) = due_words stage candidates due
 step_words nothing_comes = codes "declared, nothing is left to do"
 
--- the line that says what comes next in the election of a ward
+-- the line that says what comes next in a ward's election
 unfoldable pub step_text : ℕ → NextStepEntry → Text
 step_text ward step = codes "ward " ++ (decimal ward ++ (codes ": " ++ step_words step))

@@ -66,7 +66,7 @@ IsTold s (errand.Print ward text) file page = page ≡ page_found printed (text_
 IsTold s (errand.PrintIndex title) file page = page ≡ page_found printed (index_answer title.now s)
 IsTold s (errand.Ask question) file page = page ≡ page_asked s question
 
--- why a file is refused as a script: it can't be opened or read, or this is wrong with the first line that isn't understood
+-- why a file is refused as a script: it can't be opened or read, or the page says what is wrong with the first line that isn't understood
 abbrev pub IsRefusedScript : File → Page → Type 0
 IsRefusedScript None page = page ≡ unopened
 IsRefusedScript (Some told) page =

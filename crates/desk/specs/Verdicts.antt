@@ -6,7 +6,7 @@ use Rattle.register.specs.declared.verdicts.Verdict.{Verdict}
 use Rattle.register.specs.declared.verdicts.Verdict.TheVariants as verdict
 use Rattle.desk.specs.Numbers.{number_in}
 
--- a verdict on a doubtful paper: it counts with these marks, or it is rejected for the reason with this code
+-- a verdict on a doubtful paper: it counts with the given marks, or it is rejected for the reason with the given code
 pub data Judgement : Type 0 where
   accepted : Text → Judgement
   rejected : ℕ → Judgement

@@ -1,4 +1,4 @@
--- The status of the election of a ward, in words.
+-- The status of a ward's election, in words.
 use Rattle.std.specs.Prelude.{◌++◌, codes}
 use Rattle.std.specs.Fmt.{decimal}
 use Rattle.clap.specs.Words.{Text}
@@ -21,7 +21,7 @@ ward_words s = codes "ward " ++ (decimal s.ward ++ (codes " " ++ (phase_word s.p
 unfoldable pub batch_words : StatusEntry → Text
 batch_words s = decimal s.batches ++ (codes " batches, " ++ (decimal s.taken ++ (codes " taken, " ++ (decimal s.differing ++ codes " differing"))))
 
--- how many doubtful papers are open, and how many stages are counted
+-- how many doubtful papers are open, and how many stages have been counted
 unfoldable pub count_words : StatusEntry → Text
 count_words s = decimal s.doubtful_open ++ (codes " doubtful open, " ++ (decimal s.stages ++ codes " stages"))
 

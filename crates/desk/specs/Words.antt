@@ -85,7 +85,7 @@ rule_of_kind kind.Texts = texts_rule
 rule_of_kind kind.Options = options_rule
 rule_of_kind kind.Flag = flag_rule
 
--- a command, with these words added
+-- a command, with the given words added
 abbrev pub with_words : App → List WordEntry → App
 with_words app [] = app
 with_words app (w ∷ ws) = with_words (with_rule app (rule_of_kind w.kind w.name)) ws
@@ -94,7 +94,7 @@ with_words app (w ∷ ws) = with_words (with_rule app (rule_of_kind w.kind w.nam
 abbrev pub order_words : OrderWords → App
 order_words e = with_words (new_app e.name) e.words
 
--- a command, with these orders added
+-- a command, with the given orders added
 abbrev pub with_orders : App → List OrderWords → App
 with_orders app [] = app
 with_orders app (e ∷ es) = with_orders (with_subcommand app (order_words e).top) es
@@ -110,19 +110,19 @@ office_words = with_orders start_words (map (λ e. e.typed) orders)
 
 -- ---- the order that the matches mean
 
--- the number that was matched under a name, if any
+-- the number that was matched for a name, if any
 abbrev pub number_found : Text → List Row → Option ℕ
 number_found name rows = option_and_then number_in (one_of name rows)
 
--- the number that was matched under a name, or 0
+-- the number that was matched for a name, or 0
 abbrev pub number_at : Text → List Row → ℕ
 number_at name rows = unwrap_or (number_found name rows) 0
 
--- the text that was matched under a name, or the empty text
+-- the text that was matched for a name, or the empty text
 abbrev pub text_at : Text → List Row → Text
 text_at name rows = unwrap_or (first_of name rows) []
 
--- the texts that were matched under a name, or none
+-- the texts that were matched for a name, or none
 abbrev pub texts_at : Text → List Row → List Text
 texts_at name rows = unwrap_or (all_of name rows) []
 
@@ -130,11 +130,11 @@ texts_at name rows = unwrap_or (all_of name rows) []
 abbrev pub flag_at : Text → List Row → Bool
 flag_at name rows = bytes_eq (text_at name rows) (codes "true")
 
--- the origin that was matched under a name, if any; its inner value is None if the text denotes no origin
+-- the origin that was matched for a name, if any; its inner value is None if the text denotes no origin
 abbrev pub origin_at : Text → List Row → Option (Option Text)
 origin_at name rows = option_map origin_in (first_of name rows)
 
--- the digest that was matched under a name, if any; its inner value is None if the text denotes no digest
+-- the digest that was matched for a name, if any; its inner value is None if the text denotes no digest
 abbrev pub digest_at : Text → List Row → Option (Option (List ℕ))
 digest_at name rows = option_map digest_in (first_of name rows)
 
@@ -159,7 +159,7 @@ digested_by None means = means None
 digested_by (Some None) means = no_digest
 digested_by (Some (Some digest)) means = means (Some digest)
 
--- what the matched value of a word means
+-- what the word's matched value means
 abbrev pub with_value : (k : Kind) → List Row → Text → (WordValue k → Meant) → Meant
 with_value kind.Number rows name means = means (number_at name rows)
 with_value kind.NumberOrNone rows name means = means (number_found name rows)
@@ -177,12 +177,12 @@ with_value kind.Texts rows name means = means (texts_at name rows)
 with_value kind.Options rows name means = means (texts_at name rows)
 with_value kind.Flag rows name means = means (flag_at name rows)
 
--- what the matched values of some words mean
+-- what the matched values of the given words mean
 abbrev pub with_values : List Row → (words : List WordEntry) → OfWords words Meant → Meant
 with_values rows [] means = means
 with_values rows (w ∷ ws) means = with_value w.kind rows w.name (λ value. with_values rows ws (means value))
 
--- what the matches mean for the order with a name
+-- what the matches mean for the order with the given name
 abbrev pub meaning_of : Text → List Row → Option Meant
 meaning_of name rows = option_map (λ e. with_values rows e.typed.words e.means) (find (λ e. bytes_eq name e.typed.name) orders)
 
@@ -191,15 +191,15 @@ abbrev pub meaning : Option (Text × List Row) → Option Meant
 meaning None = None
 meaning (Some found) = meaning_of found.0 found.1
 
--- the office sends a command under the id that was matched
+-- the office sends a command under the matched id
 abbrev pub sent : List Row → Command → Meant
 sent rows command = send (by_office (text_at (codes "id") rows) (asked_by command))
 
--- whether the name is that of an order
+-- whether an order has the given name
 abbrev pub is_order_name : Text → Bool
 is_order_name name = list_any (λ e. bytes_eq name e.typed.name) orders
 
--- whether the name is that of an order that sends a command
+-- whether an order that sends a command has the given name
 abbrev pub is_command_name : Text → Bool
 is_command_name name = list_any (λ e. e.is_command && bytes_eq name e.typed.name) orders
 
@@ -267,7 +267,7 @@ bad_form = codes "error: a form is covers, adjudication, lots or declaration, an
 abbrev pub IsOwnText : Option Text → Text → Type 0
 IsOwnText own text = IfSome own (λ bytes. bytes ≢ [] → text ≡ bytes)
 
--- what is printed for a refusal of this kind: a nonempty text, with the status for the kind; or that an allocation failed
+-- what is printed for a refusal of the given kind: a nonempty text, with the status for the kind; or that an allocation failed
 abbrev pub TellsRefusal : ErrorKind → WordsFault → Type 0
 TellsRefusal kind words_fault.Memory = ⊤
 TellsRefusal kind words_fault.Verdict = ⊥
@@ -277,7 +277,7 @@ TellsRefusal kind words_fault.TitleAlone = ⊥
 TellsRefusal kind words_fault.Form = ⊥
 TellsRefusal kind (words_fault.Words text status) = (kind ≢ OutOfMemory) × (status ≡ status_of_kind kind) × (string_bytes text ≢ [])
 
--- the printed text is this one, if it is known and not empty
+-- the printed text is the given one, if that is known and not empty
 abbrev pub TellsOwnText : Option Text → WordsFault → Type 0
 TellsOwnText own words_fault.Memory = ⊤
 TellsOwnText own words_fault.Verdict = ⊥

@@ -17,7 +17,7 @@ pub(crate) struct NamesByNumber<'a> {
     places: Vec<&'a str>,
 }
 
-/// Returns the candidate with this number.
+/// Returns the candidate with the given number.
 pub(crate) fn candidate_in<'a>(candidates: &'a [Candidate], number: u32) -> Option<&'a Candidate>
     ensures { option_map (λ c. candidate_entry c.now) result ≡ candidate_in (map candidate_entry candidates.now) number }
 {
@@ -29,7 +29,7 @@ pub(crate) fn candidate_in<'a>(candidates: &'a [Candidate], number: u32) -> Opti
     None
 }
 
-/// Returns the name of the candidate with this number, or an empty string if there is none.
+/// Returns the name of the candidate with the given number, or an empty string if there is none.
 pub(crate) fn name_of<'a>(candidates: &'a [Candidate], number: u32) -> &'a str
     ensures { result.now ≡ name_of (map candidate_entry candidates.now) number }
 {
@@ -41,8 +41,8 @@ pub(crate) fn name_of<'a>(candidates: &'a [Candidate], number: u32) -> &'a str
 
 impl<'a> NamesByNumber<'a> {
     #[tactic(auto, unfolding(crate::specs::CandidateNames::names_of))]
-    /// Returns the names of these candidates. Each number from 0 to 30 is looked up once, so that the name for a preference can
-    /// then be found by index.
+    /// Returns the names of the given candidates. Each number from 0 to 30 is looked up once, so that the name for a preference
+    /// can then be found by index.
     pub(crate) fn new(
         alloc: Global,
         candidates: &'a [Candidate],

@@ -19,7 +19,7 @@ use store::{CopyFault, Fault};
 use streams::Sink;
 
 #[tactic(auto, unfolding(crate::specs::Copying::copied_text))]
-/// Returns the line that says how much a copy contains, without its line end.
+/// Returns the line that says how much a copy contains, without its newline.
 fn copied_text(alloc: Global, holdings: OfficeCounts) -> Result<String, AllocError>
     ensures { IfOk result (λ text. string_bytes text ≡ copied_text holdings) }
 {
@@ -41,7 +41,7 @@ pub enum CopyState {
     Unknown,
 }
 
-/// Returns what the other database contains after this fault.
+/// Returns what the other database contains after the given fault.
 pub(crate) fn state_behind(fault: CopyFault) -> CopyState
     ensures { result ≡ state_behind fault }
 {
@@ -102,7 +102,7 @@ fn copied_open<S: Alter, T: Alter>(
 /// Copies an open office, which stays open, into the empty database on another connection. Prints how much the copy contains, and
 /// returns the status and what the other database contains. The other connection isn't closed.
 ///
-/// The copy is made in the same way as by `copy_office`, except that the office is already open. The office is only read. A closed
+/// The copy is made the same way as in `copy_office`, except that the office is already open. The office is only read. A closed
 /// office is reported as such.
 pub fn copy_open<S: Alter, T: Alter, O: Sink, E: Sink>(
     alloc: Global,

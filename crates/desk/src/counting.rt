@@ -1,4 +1,4 @@
-//! Counting the stages of a ward with one order.
+//! Counting a ward's stages in one order.
 
 ghost use Rattle.std.specs.Prelude.{◌≡◌, ◌-◌, ◌^◌, ◌<◌, ℕ, Bool, map};
 ghost use Rattle.sqlite.specs.State.{HasCleanDisk};
@@ -17,7 +17,7 @@ use register::{Reason, Refusal, Request};
 use sqlite::Alter;
 use streams::Sink;
 
-/// Returns the outcome of a refused request for one more stage. If the count has stopped at a lot or at its end, the outcome is a
+/// Returns the outcome of a refused request for another stage. If the count has stopped at a lot or at its end, the outcome is a
 /// reply, not a refusal. After the first request, a ward in another phase is one that has been declared in the meantime.
 fn outcome_of_refused_stage(is_first: bool, refusal: Refusal) -> LineOutcome
     ensures { page_of result ≡ page_at_rest is_first refusal }
@@ -30,8 +30,8 @@ fn outcome_of_refused_stage(is_first: bool, refusal: Refusal) -> LineOutcome
     }
 }
 
-/// Requests one more stage, as the first request of an order or a later one. Returns the outcome, and whether the count continues
-/// after it, which it does if the request was accepted, now or earlier.
+/// Requests another stage, as the first request of an order or as a later one. Returns the outcome, and whether the count
+/// continues after it, which it does if the request was accepted, now or earlier.
 fn stage_of<S: Alter>(
     office: &mut Office<S>,
     is_first: bool,
@@ -50,7 +50,7 @@ fn stage_of<S: Alter>(
     }
 }
 
-/// Returns the id of the first of these requests.
+/// Returns the id of the first of the given requests.
 fn first_id(requests: &[Request]) -> &str
     ensures { (ward : ℕ) (id : Text) → map sent_as requests.now ≡ advances ward id most_advances → result.now ≡ id_at id 1 }
 {
@@ -62,7 +62,7 @@ fn first_id(requests: &[Request]) -> &str
 
 /// Counts stage by stage with the requests of an order, and prints each reply. The count ends after the first request that isn't
 /// accepted, now or earlier. If it has stopped at a lot or at its end, a line says so too, with status 0. Any other refusal is
-/// printed as usual, with status 1, and a fault with status 3. The first output that fails also ends the count, with status 3.
+/// printed as usual, with status 1, and a fault with status 3. An output that fails also ends the count, with status 3.
 /// Every stage whose reply was printed remains counted.
 pub(crate) fn count_stages<S: Alter, O: Sink, E: Sink>(
     office: &mut Office<S>,

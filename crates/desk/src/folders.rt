@@ -6,7 +6,7 @@ ghost use Rattle.desk.specs.Folders.{Folder};
 
 use std::io::Read;
 
-/// Something that opens files by their paths.
+/// Something that opens files by path.
 pub trait Folder {
     type File: Read + Drop;
 

@@ -30,8 +30,8 @@ pub(crate) const UNOPENED: FileFault = FileFault {
     record_number: 0,
 };
 
-/// Returns the requests that add the candidates of a file, or why there are none. `file` is None if it couldn't be opened;
-/// otherwise it is read to the end. If a digest is given, the bytes that the requests are read from have it.
+/// Returns the requests that add the candidates in a file, or the reason why there are none. `file` is None if it couldn't be
+/// opened; otherwise it is read to the end. If a digest is given, the bytes that the requests are read from have that digest.
 pub(crate) fn candidate_requests<R: Read + Drop>(
     alloc: Global,
     id: &str,
@@ -54,8 +54,8 @@ pub(crate) fn candidate_requests<R: Read + Drop>(
     }
 }
 
-/// Returns the requests that give out the batches of a file, or why there are none. `file` is None if it couldn't be opened;
-/// otherwise it is read to the end. If a digest is given, the bytes that the requests are read from have it.
+/// Returns the requests that give out the batches in a file, or the reason why there are none. `file` is None if it couldn't be
+/// opened; otherwise it is read to the end. If a digest is given, the bytes that the requests are read from have that digest.
 pub(crate) fn batch_requests<R: Read + Drop>(
     alloc: Global,
     id: &str,
@@ -78,9 +78,9 @@ pub(crate) fn batch_requests<R: Read + Drop>(
     }
 }
 
-/// Returns the request that stores the keying in a file, whose papers have these columns, or why there is none. `file` is None if
-/// it couldn't be opened; otherwise it is read to the end. If the file names a batch and a clerk, they are the request's. If a
-/// digest is given, the bytes that the request is read from have it.
+/// Returns the request that stores the keying in a file whose papers have the given columns, or the reason why there is none.
+/// `file` is None if it couldn't be opened; otherwise it is read to the end. If the file names a batch and a clerk, the request has
+/// the same ones. If a digest is given, the bytes that the request is read from have that digest.
 fn keying_in<R: Read + Drop>(
     alloc: Global,
     keyed: KeyingFile<'_>,
@@ -106,7 +106,8 @@ fn keying_in<R: Read + Drop>(
     }
 }
 
-/// Returns the request that stores the keying of a batch in a file, or why there is none. `file` is None if it couldn't be opened.
+/// Returns the request that stores the keying of a batch in a file, or the reason why there is none. `file` is None if it couldn't
+/// be opened.
 ///
 /// The columns are those of the batch's ward. If there is no such batch, the file isn't read.
 pub(crate) fn keying_of<S: Alter, R: Read + Drop>(

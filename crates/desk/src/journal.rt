@@ -1,11 +1,12 @@
-//! The text of a journal: the orders that an office accepted, in an order in which all of them are accepted again.
+//! The text of a journal: the orders that an office accepted, in a sequence in which all of them are accepted again.
 //!
 //! There is one line per receipt. Whatever the receipt doesn't contain is taken from the other tables. First come the nominations,
 //! ward by ward; then the papers, batch by batch, each batch with the verdicts on its papers; then the counts, ward by ward. This
 //! way each order follows those that it depends on, and the rows of papers are in key order. The last line says how many orders
 //! there are.
 //!
-//! No contract describes the text. Before printing it, the caller parses it and checks what it makes of an empty office.
+//! No contract describes the text. Before printing it, the caller parses it and checks the office that results from replaying it
+//! in an empty one.
 
 ghost use Rattle.register.specs.Offices.{MapsAreSorted};
 ghost use Rattle.rowcheck.specs.States.{state_of};
@@ -70,13 +71,13 @@ fn put_all_counts(
     Ok(())
 }
 
-/// Appends the last line, which says how many orders precede it, one per receipt. A text without this line is truncated.
+/// Appends the last line, which says how many orders precede it, one per receipt. A text without this line has been truncated.
 fn put_end(alloc: Global, text: &mut String, orders: usize) -> Result<(), AllocError> {
     let says = format!(in alloc; "end: {orders} orders")?;
     put_heading(text, says.as_str())
 }
 
-/// Returns the text of the journal for an office with these rows.
+/// Returns the text of the journal for an office with the given rows.
 pub(crate) fn journal_text(alloc: Global, rows: &Rows) -> Result<String, AllocError>
     requires { MapsAreSorted (state_of rows.now) }
 {

@@ -24,7 +24,7 @@ use std::alloc::{AllocError, Global};
 use store::Fault;
 use streams::Sink;
 
-/// The text of a journal that hasn't been checked yet, and the requests that it parses to, or None if it doesn't parse to requests
+/// The text of a journal that hasn't been checked yet, and the requests that it parses to; None if it isn't a script of requests
 /// only.
 #[derive(Drop)]
 pub(crate) struct Draft {
@@ -32,7 +32,7 @@ pub(crate) struct Draft {
     pub(crate) requests: Option<Vec<Request>>,
 }
 
-/// Returns the requests that these steps send; None if a step does anything other than send a given request.
+/// Returns the requests that the given steps send; None if a step does anything other than send a given request.
 fn requests_of(
     alloc: Global,
     turns: Vec<ScriptStep<'_>>,
@@ -50,7 +50,7 @@ fn requests_of(
     Ok(Some(requests))
 }
 
-/// Returns the requests of a script; None if the text isn't a script of requests only.
+/// Returns a script's requests; None if the text isn't a script of requests only.
 pub(crate) fn requests_in(alloc: Global, text: &str) -> Result<Option<Vec<Request>>, AllocError>
     ensures { IfOk result (λ found. IfSome found (λ requests. IsScriptOf text.now requests.items)) }
 {
@@ -63,7 +63,7 @@ pub(crate) fn requests_in(alloc: Global, text: &str) -> Result<Option<Vec<Reques
     }
 }
 
-/// Returns the text of the journal for an office with these rows, and the requests it parses to.
+/// Returns the text of the journal for an office with the given rows, and the requests it parses to.
 pub(crate) fn draft_of(alloc: Global, rows: &Rows) -> Result<Draft, AllocError>
     requires { MapsAreSorted (state_of rows.now) }
     ensures { IfOk result (λ draft. IfSome draft.requests (λ requests. IsScriptOf (string_bytes draft.text) requests.items)) }
@@ -73,9 +73,9 @@ pub(crate) fn draft_of(alloc: Global, rows: &Rows) -> Result<Draft, AllocError>
     Ok(Draft { text, requests })
 }
 
-/// Returns the journal for an office with these rows, or why there is none: the text doesn't reproduce that office, or a fault,
-/// `Memory` or `Store`, occurred. The journal is replayed in the empty database on a connection. That connection is returned along
-/// with whatever the replay left in its database.
+/// Returns the journal for an office with the given rows, or the reason why there is none: the text doesn't reproduce that office,
+/// or a fault, `Memory` or `Store`, occurred. The journal is replayed in the empty database on a connection. That connection is
+/// returned along with whatever the replay left in its database.
 fn journal_of<T: Alter>(
     alloc: Global,
     rows: &Rows,
@@ -99,7 +99,7 @@ fn journal_of<T: Alter>(
     }
 }
 
-/// Returns the journal of the office on a connection, or why there is none.
+/// Returns the journal of the office on a connection, or the reason why there is none.
 fn journalled<S: Alter, T: Alter>(
     alloc: Global,
     conn: &mut Connection<S>,
@@ -115,7 +115,7 @@ fn journalled<S: Alter, T: Alter>(
     }
 }
 
-/// Returns the journal of an open office, which stays open, or why there is none.
+/// Returns the journal of an open office, which stays open, or the reason why there is none.
 fn journalled_open<S: Alter, T: Alter>(
     alloc: Global,
     office: &mut Office<S>,
@@ -134,7 +134,7 @@ fn journalled_open<S: Alter, T: Alter>(
 
 /// Prints the journal of an open office, which stays open, and returns the status. The other connection isn't closed.
 ///
-/// The journal is checked and printed in the same way as by `journal_office`, except that the office is already open. The office is
+/// The journal is checked and printed the same way as in `journal_office`, except that the office is already open. The office is
 /// only read. A closed office is reported as such.
 pub fn journal_open<S: Alter, T: Alter, O: Sink, E: Sink>(
     alloc: Global,
@@ -160,8 +160,8 @@ pub fn journal_open<S: Alter, T: Alter, O: Sink, E: Sink>(
 ///
 /// The journal is a script that `replay` accepts: each line is an order that was accepted. It needs no other file. Before it is
 /// printed, it is parsed as a script and replayed in an empty office, which is created in the database on the other connection.
-/// With status 0, every line was accepted there, and together they produced exactly the state of this office, including every
-/// receipt. The office itself is only read.
+/// If the status is 0, every line was accepted there, and together they produced exactly the state of this office, including
+/// every receipt. The office itself is only read.
 ///
 /// If the text doesn't reproduce exactly this office, this is reported with status 1. That happens if the receipts and the other
 /// tables don't match; nothing guarantees that it never happens otherwise. If the database contains no office, or a newer, older or

@@ -70,7 +70,7 @@ impl Lexer {
         Ok(())
     }
 
-    /// Processes a byte outside quotes that isn't whitespace.
+    /// Processes a non-whitespace byte outside quotes.
     fn cut_open(&mut self, byte: u8) -> Result<(), AllocError>
         ensures { OnOk result (lexer_entry self.new ≡ cut_open (lexer_entry self.old) byte) }
     {
@@ -128,7 +128,7 @@ pub(crate) fn words_of(alloc: Global, line: &[u8]) -> Result<Option<Vec<Vec<u8>>
     cutter.into_words(alloc)
 }
 
-/// Returns true if a line is skipped: it consists of whitespace only, or its first byte that isn't whitespace is `#`.
+/// Returns true if a line is skipped: it consists only of whitespace, or its first non-whitespace byte is `#`.
 pub(crate) fn passes_over(line: &[u8]) -> bool
     ensures { result ≡ passes_over line.now }
 {

@@ -4,11 +4,12 @@
 //! connection to any `sqlite` store and prints the resulting lines; [`plain`] does the same with a single file that is already
 //! open. A [`Folder`](folders) opens the files that the order or its script names. [`lines`](lines) prints what is wrong with words
 //! that aren't an order, and other failures. [`copy_office`](copying) performs an order to copy the office, and
-//! [`journal_office`](journal_check) an order to print its journal, each on two connections; an order to serve is performed by the
-//! crate `server`. In an office that is already open, such as one that is being served, [`follow`](order_running) does a job, and
-//! `copy_open` and `journal_open` copy the office and print its journal. There [`mend_open`](mended_office) makes another office
-//! from that journal, with some orders left out and others replaced. [`files_named_in`](script_files) returns which files a script
-//! names, for a client that sends them along with it. Which files, outputs and sockets these are is up to the program.
+//! [`journal_office`](journal_check) an order to print its journal, each on two connections; an order to serve is performed by
+//! the `server` crate. In an office that is already open, such as one that is being served, [`follow`](order_running) does a job,
+//! and `copy_open` and `journal_open` copy the office and print its journal. There [`mend_open`](mended_office) makes another
+//! office from that journal, with some orders left out and others replaced. [`files_named_in`](script_files) returns the paths
+//! of the files that a script names, for a client that sends them along with it. Which files, outputs and sockets these are is up
+//! to the program.
 //!
 //! ```text
 //! match order(alloc, words) {

@@ -38,15 +38,15 @@ pub(crate) enum LineOutcome {
     Ready,
     /// An office was migrated, or already had this program's version.
     Migrated(Migrated),
-    /// The reply to a request that was accepted, now or earlier; or the status of a ward, or what comes next in its election.
+    /// The reply to a request that was accepted, now or earlier; or a ward's status, or what comes next in its election.
     Replied(Reply),
     /// The reply to a request that was accepted earlier under this id with different content. A note says so.
     Noted { reply: Reply, id: String },
-    /// This text, printed verbatim. Its lines are terminated.
+    /// A text to print verbatim, in which every line ends with a newline.
     Printed(String),
     /// No seat is left to fill in a count.
     CountFinished,
-    /// A count needs a lot, so a request for one more stage was refused. This is printed as a reply, not as a refusal.
+    /// A count needs a lot, so a request for another stage was refused. This is printed as a reply, not as a refusal.
     LotNeeded(Refusal),
     /// A request was refused.
     Refused(Refusal),
@@ -66,9 +66,9 @@ pub(crate) enum LineOutcome {
     Unmended(String),
 }
 
-/// The reason why the program fails. 101 to 106 and 108 are faults of the office. 107 is an output that fails. 109 is a copy that
-/// already exists, and 110 one that can't be written. 111 is an order that isn't allowed in an office that is being served. 113 is
-/// an office whose file was removed or replaced while it was being served.
+/// The reason why the program fails. 101 to 106 and 108 are faults of the office. 107 is an output that failed. 109 is a copy
+/// that already exists, and 110 one that can't be written. 111 is an order that isn't allowed in an office that is being served.
+/// 113 is an office whose file was removed or replaced while it was being served.
 #[derive(Clone, Copy, Debug, PartialEq, Eq, Drop, Error)]
 #[error("{}", self.text())]
 pub enum Failure {
@@ -119,7 +119,7 @@ fn put_pieces<W: Sink>(pieces: &[&str], sink: &mut W) -> Result<(), Broken>
     Ok(())
 }
 
-/// Prints pieces of text on the output. Returns 0, or 3 if the output fails, which is reported on the error output.
+/// Prints pieces of text to the output. Returns 0, or 3 if the output fails, which is reported to the error output.
 fn tell_text<O: Sink, E: Sink>(pieces: &[&str], out: &mut O, err: &mut E) -> u8
     requires out { O.failed out.old < 2 ^ 64 - 1 }
     requires err { E.failed err.old < 2 ^ 64 - 1 }
@@ -131,7 +131,7 @@ fn tell_text<O: Sink, E: Sink>(pieces: &[&str], out: &mut O, err: &mut E) -> u8
     }
 }
 
-/// Writes the prefix for a script's line, `line 3: `; writes nothing if there is no such line.
+/// Writes the prefix for a script's line, `line 3: `; writes nothing if there is none.
 fn put_line_prefix<W: Sink>(line: Option<usize>, sink: &mut W) -> Result<(), Broken>
     requires { W.failed sink.old < 2 ^ 64 - 1 }
     ensures { IsPut W.taken W.failed sink.old sink.new (line_front line) result }
@@ -151,7 +151,7 @@ fn put_line<W: Sink>(line: Option<usize>, pieces: &[&str], sink: &mut W) -> Resu
     put_pieces(pieces, sink)
 }
 
-/// Prints a line, given in pieces, on the error output, with the line number as a prefix if it concerns a script's line. Returns
+/// Prints a line, given in pieces, to the error output, with the line number as a prefix if it concerns a script's line. Returns
 /// the given status, or 3 if the error output fails.
 fn tell_error<E: Sink>(line: Option<usize>, pieces: &[&str], status: u8, err: &mut E) -> u8
     requires { E.failed err.old < 2 ^ 64 - 1 }
@@ -163,7 +163,7 @@ fn tell_error<E: Sink>(line: Option<usize>, pieces: &[&str], status: u8, err: &m
     }
 }
 
-/// Prints a kind, a number and a text in one line on the error output. Returns the given status, or 3 if the error output fails.
+/// Prints a kind, a number and a text on one line to the error output. Returns the given status, or 3 if the error output fails.
 fn tell_numbered<E: Sink>(
     line: Option<usize>,
     kind: &str,
@@ -386,7 +386,7 @@ fn tell_failure_at<E: Sink>(line: Option<usize>, failure: Failure, err: &mut E) 
     tell_numbered(line, "fault ", failure.number(), failure.text(), 3, err)
 }
 
-/// Prints a failure on the error output and returns its status, 3.
+/// Prints a failure to the error output and returns its status, 3.
 ///
 /// If the error output fails too, nothing more can be printed.
 pub fn tell_failure<E: Sink>(failure: Failure, err: &mut E) -> u8
@@ -418,8 +418,8 @@ fn migrated_text(migrated: Migrated) -> &'static str
     }
 }
 
-/// Writes the note that the request with an id was accepted earlier with different content. The note is prefixed by the line number
-/// if it concerns a script's line.
+/// Writes the note that the request with an id was accepted earlier with different content. The note is prefixed with the line
+/// number if it concerns a script's line.
 fn put_note<W: Sink>(line: Option<usize>, id: &str, sink: &mut W) -> Result<(), Broken>
     requires { W.failed sink.old < 2 ^ 64 - 1 }
     ensures { IsPut W.taken W.failed sink.old sink.new (line_front line ++ note_line id.now) result }
@@ -432,7 +432,7 @@ fn put_note<W: Sink>(line: Option<usize>, id: &str, sink: &mut W) -> Result<(), 
     put_line(line, &pieces, sink)
 }
 
-/// Prints that note on the error output. Returns 0, or 3 if the error output fails.
+/// Prints to the error output the note about a request that was accepted earlier. Returns 0, or 3 if the error output fails.
 fn tell_note<E: Sink>(line: Option<usize>, id: &str, err: &mut E) -> u8
     requires { E.failed err.old < 2 ^ 64 - 1 }
     ensures { IsErrorTold E.taken E.failed err.old err.new (line_front line ++ note_line id.now) 0 result }
@@ -443,7 +443,7 @@ fn tell_note<E: Sink>(line: Option<usize>, id: &str, err: &mut E) -> u8
     }
 }
 
-/// Prints that note, followed by the message that the output failed. Returns 3.
+/// Prints the note about a request that was accepted earlier, followed by the message that the output failed. Returns 3.
 fn tell_note_and_failure<E: Sink>(line: Option<usize>, id: &str, err: &mut E) -> u8
     requires { E.failed err.old < 2 ^ 64 - 1 }
     ensures { IsErrorTold E.taken E.failed err.old err.new ((line_front line ++ note_line id.now) ++ (failed Failure.Output).err) 3 result }
@@ -473,10 +473,11 @@ fn tell_noted<O: Sink, E: Sink>(
     }
 }
 
-/// Prints an outcome and returns its status. The status is 0 if the outcome is printed on the output. If it is printed on the error
-/// output, the status is 3 for a fault or a file that couldn't be read, and 1 otherwise. That is a refusal of a request or a file, or
-/// the lack of a seal, a form, a journal or a mended office. The status is also 3 if either output fails, in which case only a prefix
-/// was written to it. If the outcome is that of a script's line, what is printed on the error output begins with the line number.
+/// Prints an outcome and returns its status. The status is 0 if the outcome is printed to the output. If it is printed to the
+/// error output, the status is 3 for a fault or a file that couldn't be read, and 1 otherwise. Status 1 is for the refusal of a
+/// request or a file, and for the lack of a seal, a form, a journal or a mended office. The status is also 3 if either output
+/// fails, in which case only a prefix was written to it. If the outcome is that of a script's line, what is printed to the error
+/// output begins with the line number.
 pub(crate) fn tell<O: Sink, E: Sink>(
     line: Option<usize>,
     outcome: &LineOutcome,
@@ -520,8 +521,8 @@ pub(crate) fn tell_script_fault<E: Sink>(fault: &ScriptFault, err: &mut E) -> u8
     }
 }
 
-/// Prints why the words aren't an order. Returns 0 for help, which is printed on the output; 2 for a text on the error output; and
-/// 3 if an allocation failed or either output fails. In the last case only a prefix was written to that output.
+/// Prints why the words aren't an order. Returns 0 for help, which is printed to the output; 2 for text that is printed to the
+/// error output; and 3 if an allocation failed or either output fails. In the last case only a prefix was written to that output.
 pub fn tell_words<O: Sink, E: Sink>(fault: &WordsFault, out: &mut O, err: &mut E) -> u8
     requires out { O.failed out.old < 2 ^ 64 - 1 }
     requires err { E.failed err.old < 2 ^ 64 - 1 }

@@ -1,6 +1,6 @@
 //! The words of orders, and the entries of the table of orders.
 
-/// The kind of value that a word of an order has.
+/// The kind of value that an order's word has.
 #[derive(Clone, Copy)]
 pub(crate) enum Kind {
     /// A number from 0 to 4294967295.
@@ -19,7 +19,7 @@ pub(crate) enum Kind {
     Id,
     /// An origin as a browser writes it, after `--origin`; optional.
     Origin,
-    /// The path of a file of codes, after `--codes`; optional.
+    /// The path of a codes file, after `--codes`; optional.
     CodesFile,
     /// Any text after `--title`; empty by default.
     Title,
@@ -43,14 +43,14 @@ pub(crate) struct Word {
     pub(crate) help: &'static str,
 }
 
-/// The heading of the help under which an order is listed.
+/// The help heading under which an order is listed.
 #[derive(Clone, Copy)]
 pub(crate) enum Heading {
     /// The orders of an election.
     Election,
     /// The orders for the office alone, which are listed at the end of the help.
     Office,
-    /// The orders with which anyone can check a result, which are also listed there.
+    /// The orders that anyone can use to check a result, which are also listed at the end of the help.
     Everyone,
 }
 

@@ -144,7 +144,7 @@ fn run_steps<S: Alter, F: Folder, O: Sink, E: Sink>(
     ends
 }
 
-/// Sends the orders in the lines of a script once every line has been understood. If a line isn't understood, prints what is wrong
+/// Sends the orders in a script's lines once every line has been understood. If a line isn't understood, prints what is wrong
 /// with the first such line and sends nothing.
 fn run_script<S: Alter, F: Folder, O: Sink, E: Sink>(
     alloc: Global,
@@ -169,7 +169,7 @@ fn run_script<S: Alter, F: Folder, O: Sink, E: Sink>(
     }
 }
 
-/// Returns the contents of a script's file, or why there are none. `file` is None if it couldn't be opened.
+/// Returns the contents of a script's file, or the reason why there are none. `file` is None if it couldn't be opened.
 fn bytes_of<R: Read + Drop>(alloc: Global, file: Option<R>) -> Result<Vec<u8>, LineOutcome>
     ensures read { IfOk result (λ bytes. HoldsText (option_map R.remaining file) (λ text. bytes.items ≡ text)) }
     ensures unread { IfErr result (λ outcome. IsUnreadScript (page_of outcome)) }
@@ -187,7 +187,7 @@ fn bytes_of<R: Read + Drop>(alloc: Global, file: Option<R>) -> Result<Vec<u8>, L
     }
 }
 
-/// Returns the lines of a script's file, or why there are none.
+/// Returns the lines of a script's file, or the reason why there are none.
 fn script_of<R: Read + Drop>(alloc: Global, file: Option<R>) -> Result<Vec<ScriptLine>, LineOutcome>
     ensures read { IfOk result (λ lines. HoldsText (option_map R.remaining file) (λ text. map line_entry lines.items ≡ numbered_from 1 (lines_of text))) }
     ensures unread { IfErr result (λ outcome. IsUnreadScript (page_of outcome)) }

@@ -118,10 +118,10 @@ pub(crate) fn entries_from_seal() -> &'static [Entry]
 
 // ---- what matched words mean
 
-/// The reason why matched words mean no order.
+/// The reason why matched words don't mean an order.
 #[derive(Clone, Copy)]
 pub(crate) enum NoOrder {
-    /// The words name no order.
+    /// The words don't name an order.
     Unknown,
     /// The word for a verdict is invalid.
     BadVerdict,
@@ -283,7 +283,7 @@ fn verdict_command(alloc: Global, matches: &ArgMatches<'_>) -> Result<Command, N
     }
 }
 
-/// Returns the command that the order of this name sends, with the matched values.
+/// Returns the command that the order with the given name sends, with the matched values.
 fn command_named(alloc: Global, name: &str, matches: &ArgMatches<'_>) -> Result<Command, NoOrder>
     ensures ok { IfOk result (λ command. meaning_of name.now (rows_of (found_of matches.now)) ≡ Some (sent (rows_of (found_of matches.now)) command)) }
     ensures unknown { result ≡ Err NoOrder.Unknown → is_command_name name.now ≡ false }
@@ -336,7 +336,7 @@ fn in_office<'a>(errand: Errand<'a>) -> Order<'a>
     Order::Perform(Task::InOffice(Job::Run(errand)))
 }
 
-/// Returns the order that sends a command of the office under the matched id.
+/// Returns the order that sends a command from the office under the matched id.
 fn sending<'a>(
     alloc: Global,
     matches: &ArgMatches<'a>,
@@ -595,7 +595,7 @@ fn question_named(name: &str, matches: &ArgMatches<'_>) -> Option<Question>
     }
 }
 
-/// Returns the order of this name, with the matched values.
+/// Returns the order with the given name, with the matched values.
 fn order_named<'a>(
     alloc: Global,
     name: &str,

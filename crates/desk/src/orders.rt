@@ -21,7 +21,7 @@ pub struct KeyingFile<'a> {
     pub digest: Option<FileDigest>,
 }
 
-/// The seal of a ward, provided that this many papers were given out to the ward's batches.
+/// The seal of a ward, provided that the expected number of papers was given out to the ward's batches.
 #[derive(Clone, Copy, Debug)]
 pub struct ExpectedSeal<'a> {
     pub ward: u32,
@@ -47,13 +47,13 @@ pub enum Form {
 pub enum Question {
     /// The status of each ward.
     Wards,
-    /// The status of each batch of a ward.
+    /// The status of each batch in a ward.
     Batches { ward: u32 },
-    /// Which papers of a ward are doubtful.
+    /// The doubtful papers in a ward.
     Doubtful { ward: u32 },
-    /// On which papers of a batch the keyings differ.
+    /// The papers on which a batch's keyings differ.
     Differences { batch: u32 },
-    /// How each paper of a batch counts.
+    /// How each paper in a batch counts.
     Papers { batch: u32 },
     /// The receipts of one actor, or of all actors.
     Receipts { actor: Option<u32> },
@@ -64,7 +64,7 @@ pub enum Question {
 /// A task in an existing office. Numbers are kept as given, whether or not they are in range.
 #[derive(Debug, Drop)]
 pub enum Errand<'a> {
-    /// Send this request, either one of the office's own or a clerk's keying.
+    /// Send this request, which is either the office's or a clerk's keying.
     Send(Request),
     /// Add the candidates in a file. The id of each request is this id, a hyphen, and the record number. If a digest is given, the
     /// file must have it.
@@ -80,30 +80,30 @@ pub enum Errand<'a> {
         id: &'a str,
         digest: Option<FileDigest>,
     },
-    /// Store a clerk's keying of a batch.
+    /// Store a clerk's keying of a batch, read from a file.
     ImportKeying(KeyingFile<'a>),
     /// Seal a ward if the expected number of papers was given out.
     SealExpected(ExpectedSeal<'a>),
-    /// Count the stages of a ward until a lot is needed or the count ends. The id of each request is this id, a hyphen, and its
+    /// Count a ward's stages until a lot is needed or the count ends. The id of each request is this id, a hyphen, and its
     /// number within this order.
     Count {
         ward: u32,
         id: &'a str,
     },
-    /// Print the status of a ward.
+    /// Print a ward's status.
     PrintStatus {
         ward: u32,
     },
-    /// Print what comes next in the election of a ward.
+    /// Print what comes next in a ward's election.
     PrintNext {
         ward: u32,
     },
-    /// Print a text of a ward.
+    /// Print one of a ward's texts.
     Print {
         ward: u32,
         text: WardText<'a>,
     },
-    /// Print the page of all wards, with this title.
+    /// Print the page listing all wards, with this title.
     PrintIndex {
         title: &'a str,
     },
@@ -140,7 +140,7 @@ impl<'a> Errand<'a> {
     }
 }
 
-/// What is done in an office once it is open.
+/// A job that is done in an open office.
 #[derive(Debug, Drop)]
 pub enum Job<'a> {
     /// Run this errand.
@@ -182,7 +182,7 @@ pub struct MendOrder<'a> {
     pub instead: Vec<String>,
 }
 
-/// What the program is to do.
+/// What the program is asked to do.
 #[derive(Debug, Drop)]
 pub enum Order<'a> {
     /// Perform this task on the office's database.
@@ -195,7 +195,7 @@ pub enum Order<'a> {
     Journal,
     /// Make a new office, in a file that doesn't exist yet, from this one's journal, with some orders left out and others replaced.
     Mend(MendOrder<'a>),
-    /// Write a new file of codes, which must not exist yet, for the clerks that a word names, and for the office too if requested.
+    /// Write a new codes file, which must not exist yet, for the clerks that a word names, and for the office too if requested.
     Codes {
         path: &'a str,
         clerks: &'a str,
@@ -206,9 +206,9 @@ pub enum Order<'a> {
         path: &'a str,
         address: Origin<'a>,
     },
-    /// Serve connections on a port of this machine. If an origin is given, its pages are also served through a proxy. Serving ends
-    /// after this many connections, or never if no number is given. Clerks need codes if the path of a file of codes is given. If a
-    /// title is given, the count is shown in public with that title.
+    /// Serve connections on a local port. If an origin is given, its pages are also served through a proxy. Serving
+    /// ends after this many connections, or continues forever if no number is given. Clerks need codes if the path of a codes file
+    /// is given. If a title is given, the count is shown in public with that title.
     Serve {
         port: u32,
         connections: Option<u32>,

@@ -1,5 +1,5 @@
-//! Overviews, one line each, for wards, the batches of a ward, the differences in a batch, receipts and papers. The lines for
-//! papers are made in [`papers`](crate::papers).
+//! Overviews, one line each, for wards, a ward's batches, the differences in a batch, receipts and papers. The lines for
+//! papers are built in [`papers`](crate::papers).
 
 ghost use Rattle.std.specs.Prelude.{◌≡◌, ◌⊎◌, ◌++◌, map, IfOk, IfErr, string_bytes};
 ghost use Rattle.std.specs.List.{flat_map};
@@ -30,15 +30,15 @@ use store::{BatchOverview, BatchStanding, ClerkOverview, Differences, Fault, War
 trait Lined {
     ghost use Rattle.clap.specs.Words.{Text};
 
-    /// The line, without its end.
+    /// The line, without its newline.
     ghost text: { Self → Text };
 
-    /// Returns the line, without its end.
+    /// Returns the line, without its newline.
     fn line(&self, alloc: Global) -> Result<String, AllocError>
         ensures { IfOk result (λ told. string_bytes told ≡ text self.now) };
 }
 
-/// Appends one more number to a list: `, 3`.
+/// Appends another number to a list: `, 3`.
 fn put_behind(alloc: Global, text: &mut String, number: u32) -> Result<(), AllocError>
     ensures { IfOk result (λ _. string_bytes text.new ≡ string_bytes text.old ++ behind number) }
 {
@@ -96,7 +96,7 @@ fn untaken_words(alloc: Global, overview: &WardOverview) -> Result<String, Alloc
 }
 
 #[tactic(auto, unfolding(crate::specs::Overviews::open_words))]
-/// Returns how many batches differ, how many doubtful papers are open, and how many stages are counted.
+/// Returns how many batches differ, how many doubtful papers are open, and how many stages have been counted.
 fn open_words(alloc: Global, overview: &WardOverview) -> Result<String, AllocError>
     ensures { IfOk result (λ text. string_bytes text ≡ open_words (ward_view overview.now)) }
 {
@@ -106,7 +106,7 @@ fn open_words(alloc: Global, overview: &WardOverview) -> Result<String, AllocErr
 }
 
 #[tactic(auto, unfolding(crate::specs::Overviews::elected_words))]
-/// Returns who is elected to these seats, once the result is declared, and how many seats stay empty.
+/// Returns who is elected to the given seats, once the result is declared, and how many seats stay empty.
 fn elected_words(alloc: Global, seats: u32, elected: &Option<Columns>) -> Result<String, AllocError>
     ensures { IfOk result (λ text. string_bytes text ≡ elected_words seats elected.now) }
 {
@@ -163,7 +163,7 @@ fn put_clerk(alloc: Global, text: &mut String, overview: &ClerkOverview) -> Resu
     text.push_str(told.as_str())
 }
 
-/// Returns the clerks of a batch, and whether each of them has keyed it.
+/// Returns a batch's clerks, and whether each of them has keyed it.
 fn clerks_words(alloc: Global, clerks: &[ClerkOverview]) -> Result<String, AllocError>
     ensures { IfOk result (λ text. string_bytes text ≡ flat_map clerk_words (map clerk_view clerks.now)) }
 {
@@ -213,7 +213,7 @@ impl Lined for BatchOverview {
 // ---- differences, and receipts
 
 #[tactic(auto, unfolding(crate::specs::Overviews::differences_line))]
-/// Returns the line that says on which papers of a batch the keyings differ.
+/// Returns the line that lists the papers on which a batch's keyings differ.
 fn differences_line(alloc: Global, found: &Differences) -> Result<String, AllocError>
     ensures { IfOk result (λ text. string_bytes text ≡ differences_line (differences_view found.now)) }
 {
@@ -280,7 +280,7 @@ pub(crate) fn stopped(stop: ReadError) -> LineOutcome
     }
 }
 
-/// Returns what is printed for the values found, or why there are none, or that an allocation failed.
+/// Returns what is printed for the values found, for the reason why there are none, or for a failed allocation.
 fn outcome_of<T: Lined + Drop>(alloc: Global, found: Result<Vec<T>, ReadError>) -> LineOutcome
     ensures lines { IfOk found (λ all. (page_of result ≡ printed (flat_map (λ t. line (T.text t)) all.items)) ⊎ (page_of result ≡ failed (Failure.Office Fault.Memory))) }
     ensures stop { IfErr found (λ stop. page_of result ≡ page_stopped stop) }
@@ -295,7 +295,7 @@ fn outcome_of<T: Lined + Drop>(alloc: Global, found: Result<Vec<T>, ReadError>) 
     }
 }
 
-/// Returns a line that says on which papers of a batch the keyings differ, or why there is none.
+/// Returns a line that lists the papers on which a batch's keyings differ, or the reason why there is none.
 fn differences_of<S: Alter>(alloc: Global, office: &mut Office<S>, batch: u32) -> LineOutcome
     ensures found { WhenOpenAt (state S.Store) office.old office.new
         (λ s. IsAskedOf s (Question.Differences batch) (page_of result) office.new.closed (state S.Store office.old.held) (state S.Store office.new.held)) }
@@ -310,7 +310,7 @@ fn differences_of<S: Alter>(alloc: Global, office: &mut Office<S>, batch: u32) -
     }
 }
 
-/// Returns the lines for the doubtful papers of a ward, or why there are none.
+/// Returns the lines for a ward's doubtful papers, or the reason why there are none.
 fn doubtful_of<S: Alter>(alloc: Global, office: &mut Office<S>, ward: u32) -> LineOutcome
     ensures found { WhenOpenAt (state S.Store) office.old office.new
         (λ s. IsAskedOf s (Question.Doubtful ward) (page_of result) office.new.closed (state S.Store office.old.held) (state S.Store office.new.held)) }
@@ -325,7 +325,7 @@ fn doubtful_of<S: Alter>(alloc: Global, office: &mut Office<S>, ward: u32) -> Li
     }
 }
 
-/// Returns the lines that say how each paper of a batch counts, or why there are none.
+/// Returns the lines that say how each paper in a batch counts, or the reason why there are none.
 fn papers_of<S: Alter>(alloc: Global, office: &mut Office<S>, batch: u32) -> LineOutcome
     ensures found { WhenOpenAt (state S.Store) office.old office.new
         (λ s. IsAskedOf s (Question.Papers batch) (page_of result) office.new.closed (state S.Store office.old.held) (state S.Store office.new.held)) }
@@ -340,7 +340,7 @@ fn papers_of<S: Alter>(alloc: Global, office: &mut Office<S>, batch: u32) -> Lin
     }
 }
 
-/// Returns the office's answer to a question, or why there is none.
+/// Returns the office's answer to a question, or the reason why there is none.
 pub(crate) fn answer_to<S: Alter>(
     alloc: Global,
     office: &mut Office<S>,

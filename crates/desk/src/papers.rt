@@ -1,4 +1,4 @@
-//! How each paper of a batch counts, and the doubtful papers of a ward, in lines with the candidates' names.
+//! How each paper in a batch counts, and a ward's doubtful papers, in lines with the candidates' names.
 
 ghost use Rattle.std.specs.Prelude.{◌≡◌, ◌++◌, map, option_map, IfOk, string_bytes};
 ghost use Rattle.register.specs.Offices.{judged_entry};
@@ -51,7 +51,7 @@ fn preferences(
     Ok(text)
 }
 
-/// Returns the reason why a paper is rejected, by its code.
+/// Returns the reason why a paper is rejected, given its code.
 fn rejection_words(code: u32) -> &'static str
     ensures { result.now ≡ rejection_words code }
 {
@@ -138,7 +138,7 @@ fn lines_of_papers(
 }
 
 #[tactic(auto, unfolding(crate::specs::Overviews::paper_lines))]
-/// Returns how each paper of a batch counts, with the names of the candidates.
+/// Returns how each paper in a batch counts, with the names of the candidates.
 pub(crate) fn paper_lines(alloc: Global, found: &CountedPapers) -> Result<String, AllocError>
     ensures { IfOk result (λ text. string_bytes text ≡ paper_lines (papers_view found.now)) }
 {
@@ -149,7 +149,7 @@ pub(crate) fn paper_lines(alloc: Global, found: &CountedPapers) -> Result<String
 // ---- doubtful papers
 
 #[tactic(auto, unfolding(crate::specs::Overviews::verdict_words))]
-/// Returns the verdict on a paper that counts like this. If the paper is accepted with marks, the verdict includes how it counts.
+/// Returns the verdict on a paper, given how it counts. If the paper is accepted with marks, the verdict includes how it counts.
 fn verdict_words(
     alloc: Global,
     names: &NamesByNumber,
@@ -213,7 +213,7 @@ fn lines_of_doubtful(
 }
 
 #[tactic(auto, unfolding(crate::specs::Overviews::doubtful_lines))]
-/// Returns the doubtful papers of a ward, with the names of the candidates.
+/// Returns a ward's doubtful papers, with the names of the candidates.
 pub(crate) fn doubtful_lines(alloc: Global, found: &DoubtfulPapers) -> Result<String, AllocError>
     ensures { IfOk result (λ text. string_bytes text ≡ doubtful_lines (doubtful_papers_view found.now)) }
 {

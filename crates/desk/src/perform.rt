@@ -83,13 +83,13 @@ fn migrate_office<S: Alter, O: Sink, E: Sink>(
 /// `folder` opens the file that the task names, once the office is open, and each import file that a script names, when it is
 /// needed. A file is read to the end before any request from it is sent.
 ///
-/// The status is 0 if all output was written to `out`: each reply, `office ready`, the outcome of a migration, the status of a
-/// ward, an overview, or a text of a ward. It is 1 if a request or the file was refused, and 3 on a fault; `err` says which. It is
-/// also 3 if `out` or `err` itself failed, in which case only a prefix was written to it.
+/// The status is 0 if all output was written to `out`: each reply, `office ready`, the outcome of a migration, a ward's status, an
+/// overview, or one of a ward's texts. It is 1 if a request or the file was refused, and 3 on a fault; `err` says which. It is also
+/// 3 if `out` or `err` itself failed, in which case only a prefix was written to it.
 ///
 /// Every request that was answered before the first refusal or fault remains in effect. If the program is stopped at any time, what
 /// remains is the state after the accepted requests in a prefix of all requests ever sent. The prefix contains every answered
-/// request and at most one more. With status 0, all requests of the task were answered.
+/// request and at most one more. If the status is 0, all requests of the task were answered.
 ///
 /// All lines of a script are parsed before its first order is sent. If any line isn't understood, the first such line is reported
 /// with status 2, and nothing is sent. A refusal or fault of one of its orders ends the script and is printed after the line
@@ -97,9 +97,9 @@ fn migrate_office<S: Alter, O: Sink, E: Sink>(
 /// each refusal is printed, and the status is 1 unless a fault ends the script.
 ///
 /// If the database contains no office, or a newer, older or damaged one, the corresponding fault is reported, and the database
-/// isn't changed. If it has a table with one of our names, `init` creates no office: it reports fault 105 and changes nothing. Only
-/// `migrate` accepts an older office. If it is interrupted, what remains is either the older office or the complete new one, with
-/// exactly the same state.
+/// isn't changed. If it has a table with one of our names, `init` doesn't create an office: it reports fault 105 and changes
+/// nothing. Only `migrate` accepts an older office. If it is interrupted, what remains is either the older office or the complete
+/// new one, with exactly the same state.
 ///
 /// If opening or reading the office reports fault 102, the store failed; or, when a database without a state is opened, its rowids
 /// aren't distinct integers. The same applies to a request that isn't accepted.

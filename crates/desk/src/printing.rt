@@ -1,4 +1,4 @@
-//! Printing the human-readable texts of a ward and the page of all wards.
+//! Printing the human-readable texts of a ward and the page listing all wards.
 
 ghost use Rattle.sqlite.specs.Held.{state};
 ghost use Rattle.office.specs.Index.{index_answer};
@@ -12,7 +12,7 @@ use crate::lines::LineOutcome;
 use office::{Office, ReadError, WardText};
 use sqlite::Alter;
 
-/// Returns a text of a ward, or why it isn't available.
+/// Returns one of a ward's texts, or the reason why it isn't available.
 pub(crate) fn text_of<S: Alter>(office: &mut Office<S>, ward: u32, text: WardText) -> LineOutcome
     ensures found { WhenOpenAt (state S.Store) office.old office.new
         (λ s. IsFound s printed (text_answer text.entry s ward) (page_of result) office.new.closed (state S.Store office.old.held) (state S.Store office.new.held)) }
@@ -30,7 +30,7 @@ pub(crate) fn text_of<S: Alter>(office: &mut Office<S>, ward: u32, text: WardTex
     }
 }
 
-/// Returns the page of all wards, or why it isn't available.
+/// Returns the page listing all wards, or the reason why it isn't available.
 pub(crate) fn index_of<S: Alter>(office: &mut Office<S>, title: &str) -> LineOutcome
     ensures found { WhenOpenAt (state S.Store) office.old office.new
         (λ s. IsFound s printed (index_answer title.now s) (page_of result) office.new.closed (state S.Store office.old.held) (state S.Store office.new.held)) }

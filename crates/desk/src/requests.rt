@@ -16,7 +16,7 @@ use std::alloc::{AllocError, Global};
 /// The office itself, as the actor of these requests.
 const OFFICE: u32 = 0;
 
-/// Returns a request of the office itself.
+/// Returns a request from the office itself.
 pub(crate) fn by_office(id: String, command: Command) -> Request
     ensures { sent_as result ≡ by_office (string_bytes id) (asked_by command) }
 {
@@ -27,7 +27,7 @@ pub(crate) fn by_office(id: String, command: Command) -> Request
     }
 }
 
-/// Returns a request of a clerk.
+/// Returns a request from a clerk.
 pub(crate) fn by_clerk(clerk: u32, id: String, command: Command) -> Request
     ensures { sent_as result ≡ by_clerk clerk (string_bytes id) (asked_by command) }
 {
@@ -38,7 +38,7 @@ pub(crate) fn by_clerk(clerk: u32, id: String, command: Command) -> Request
     }
 }
 
-/// Returns the request that stores a clerk's keying of these papers, sent by the clerk.
+/// Returns the request that stores a clerk's keying of the given papers, sent by the clerk.
 pub(crate) fn keying_request(
     alloc: Global,
     keying: KeyingFile<'_>,
@@ -56,14 +56,14 @@ pub(crate) fn keying_request(
 }
 
 #[tactic(auto, unfolding(crate::specs::Requests::id_at))]
-/// Returns the request id for the record with this number: the order's id, a hyphen, and the number.
+/// Returns the request id for the record with the given number: the order's id, a hyphen, and the number.
 fn id_at(alloc: Global, id: &str, number: usize) -> Result<String, AllocError>
     ensures { IfOk result (λ text. string_bytes text ≡ id_at id.now number) }
 {
     format!(in alloc; "{id}-{number}")
 }
 
-/// A row of an import file. Each row is sent as one request of the office.
+/// A row of an import file. Each row is sent as one request from the office.
 pub(crate) trait ImportRow: Drop {
     ghost use Rattle.desk.specs.Orders.{Asked};
 
@@ -75,7 +75,7 @@ pub(crate) trait ImportRow: Drop {
     /// What an entry requests.
     ghost asked: { Entry → Asked };
 
-    /// Returns the command that requests it.
+    /// Returns the command for the entry.
     fn command(&self) -> Result<Command, AllocError>
         ensures { IfOk result (λ command. asked_by command ≡ asked (entry self.now)) };
 }
@@ -116,7 +116,7 @@ impl ImportRow for BatchRow {
     }
 }
 
-/// Returns the request for the record with this number.
+/// Returns the request for the record with the given number.
 fn request_at<T: ImportRow>(
     alloc: Global,
     id: &str,
@@ -161,14 +161,14 @@ fn advance_at(alloc: Global, ward: u32, id: &str, number: usize) -> Result<Reque
     Ok(by_office(id, Command::Count(CountCommand::Advance { ward })))
 }
 
-/// The highest stage that a count can have. There are at most 30 candidates, and each stage after the first transfers the papers of
-/// one of them, who then needs no further stage. So this is also the last stage for which a lot may be drawn.
+/// The highest stage number that a count can have. There are at most 30 candidates, and each stage after the first transfers the
+/// papers of one of them, who then needs no further stage. So this is also the last stage for which a lot may be drawn.
 const LAST_STAGE: u32 = LAST_LOT_STAGE;
 
 /// The maximum number of requests in an order that counts: one more than the number of stages. The last one is refused.
 const MOST_ADVANCES: usize = LAST_STAGE as usize + 1;
 
-/// Returns the requests that count the stages of a ward, starting with the first: as many as an order may send.
+/// Returns the requests that count a ward's stages, starting with the first: as many as an order may send.
 pub(crate) fn advances(alloc: Global, ward: u32, id: &str) -> Result<Vec<Request>, AllocError>
     ensures { IfOk result (λ requests. map sent_as requests.items ≡ advances ward id.now most_advances) }
 {

@@ -6,7 +6,7 @@ ghost use Rattle.desk.specs.ScriptFiles.{AreNamedIn, files_of};
 use crate::scripts::{ScriptFault, ScriptStep, lines_in, script_steps, typed_lines};
 use std::alloc::{AllocError, Global};
 
-/// Returns the paths of the files that steps read, in order and including repetitions.
+/// Returns the paths of the files that steps read, in order, including repeats.
 fn files_of(alloc: Global, turns: &[ScriptStep<'_>]) -> Result<Vec<String>, AllocError>
     ensures { IfOk result (λ paths. map string_bytes paths.items ≡ files_of turns.now) }
 {
@@ -19,7 +19,7 @@ fn files_of(alloc: Global, turns: &[ScriptStep<'_>]) -> Result<Vec<String>, Allo
     Ok(paths)
 }
 
-/// Returns the paths of the files that the lines of a script name, in order. If a line isn't understood, there are none: the order
+/// Returns the paths of the files that a script's lines name, in order. If a line isn't understood, there are none: the order
 /// reports that line and opens no files.
 pub fn files_named_in(alloc: Global, script: &[u8]) -> Result<Vec<String>, AllocError>
     ensures { IfOk result (λ paths. AreNamedIn script.now (map string_bytes paths.items)) }

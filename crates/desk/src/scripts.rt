@@ -82,7 +82,7 @@ pub(crate) struct TypedLine<'a> {
     words: Result<Vec<&'a str>, Garbled>,
 }
 
-/// An errand to run, and its line number if it comes from a script.
+/// An errand to run, and its line number if it is from a script.
 #[derive(Drop)]
 pub(crate) struct ScriptStep<'a> {
     pub(crate) line: Option<usize>,
@@ -171,7 +171,7 @@ fn errand_of(order: Order<'_>) -> Option<Errand<'_>>
     }
 }
 
-/// Returns the errand that these words mean, or what is wrong with them. The error is None if an allocation failed.
+/// Returns the errand that the given words mean, or what is wrong with them. The error is None if an allocation failed.
 fn errand_in<'a>(alloc: Global, words: &'a [&'a str]) -> Result<Errand<'a>, Option<LineFlaw>>
     ensures ok { IfOk result (λ errand. Means (map (λ s. s.now) words.entry.now) errand) }
     ensures err { IfErr result (λ why. IfSome why (λ flaw. IsFlawOfWords (map (λ s. s.now) words.entry.now) flaw)) }
@@ -193,7 +193,7 @@ fn errand_in<'a>(alloc: Global, words: &'a [&'a str]) -> Result<Errand<'a>, Opti
     }
 }
 
-/// Returns the step of a line, or what is wrong with it.
+/// Returns the step that a line means, or what is wrong with the line.
 fn turn_in<'a, 'b>(alloc: Global, said: &'a TypedLine<'b>) -> Result<ScriptStep<'a>, ScriptFault>
     ensures ok { IfOk result (λ turn. IsStep (typed_line_entry said.entry.now) turn) }
     ensures err { IfErr result (λ fault. IsFaultOfLine (typed_line_entry said.entry.now) fault) }

@@ -19,7 +19,7 @@ use sqlite::Alter;
 use std::alloc::{AllocError, Global};
 use store::{BatchOverview, Fault};
 
-/// Returns how many papers were given out in these batches. Their sizes always add up to less than 2^128.
+/// Returns how many papers were given out in the given batches. Their sizes always add up to less than 2^128.
 fn given_out(batches: &[BatchOverview]) -> u128
     ensures { result ≡ given_out (map batch_view batches.now) }
 {
@@ -30,7 +30,8 @@ fn given_out(batches: &[BatchOverview]) -> u128
     papers
 }
 
-/// Returns the request that seals a ward if the number of papers given out is the expected one, or why the request isn't sent.
+/// Returns the request that seals a ward if the number of papers given out is the expected one, or the reason why the request isn't
+/// sent.
 fn seal_for(alloc: Global, seal: ExpectedSeal<'_>, given_out: u128) -> Result<Request, LineOutcome>
     ensures sent { IfOk result (λ request. (given_out ≡ seal.entry.papers) × (sent_as request ≡ seal_request seal.entry)) }
     ensures unsent { IfErr result (λ outcome. ((given_out ≢ seal.entry.papers) × (page_of outcome ≡ unsealed given_out seal.entry.papers))
@@ -48,8 +49,8 @@ fn seal_for(alloc: Global, seal: ExpectedSeal<'_>, given_out: u128) -> Result<Re
     }
 }
 
-/// Returns the request that seals a ward if as many papers as expected were given out to its batches, or why the request isn't
-/// sent.
+/// Returns the request that seals a ward if as many papers as expected were given out to its batches, or the reason why the request
+/// isn't sent.
 pub(crate) fn seal_of<S: Alter>(
     alloc: Global,
     office: &mut Office<S>,

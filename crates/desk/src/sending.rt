@@ -25,7 +25,7 @@ pub(crate) fn goes_on(keep_going: bool, status: u8) -> bool
     status == 0 || (keep_going && status == 1)
 }
 
-/// Returns the combined status of a sequence after one more status: the last nonzero one, or 0.
+/// Returns the combined status of a sequence after another status: the last nonzero one, or 0.
 pub(crate) fn combined_status(before: u8, status: u8) -> u8
     ensures { result ≡ combined_status before status }
 {

@@ -1,4 +1,4 @@
-//! What comes next in the election of a ward, in one line with the candidates' names.
+//! What comes next in a ward's election, in one line with the candidates' names.
 
 ghost use Rattle.std.specs.Prelude.{◌≡◌, ◌++◌, IfOk, map, string_bytes};
 ghost use Rattle.sqlite.specs.Held.{state};
@@ -38,7 +38,7 @@ fn named(alloc: Global, candidates: &[Candidate], number: u8) -> Result<String, 
     }
 }
 
-/// Appends one more candidate to a list: `, 3 Cy`.
+/// Appends another candidate to a list: `, 3 Cy`.
 fn put_named(
     alloc: Global,
     text: &mut String,
@@ -147,8 +147,8 @@ fn nominations_words(alloc: Global, candidates: usize, seats: u32) -> Result<Str
 }
 
 #[tactic(auto, unfolding(crate::specs::Steps::seal_words))]
-/// Returns what the seal of a ward waits for. The seal is due once all batches are taken and all their doubtful papers have a
-/// verdict.
+/// Returns what the seal of a ward is waiting for. The seal is due once all batches are taken and all their doubtful papers have
+/// a verdict.
 fn seal_words(status: &Status) -> &'static str
     ensures { result.now ≡ seal_words (status_entry status.now) }
 {
@@ -200,7 +200,7 @@ fn step_words(alloc: Global, step: &NextStep) -> Result<String, AllocError>
 }
 
 #[tactic(auto, unfolding(crate::specs::Steps::step_text))]
-/// Returns the line that says what comes next in the election of a ward, without its line end.
+/// Returns the line that says what comes next in a ward's election, without its newline.
 fn step_text(alloc: Global, ward: u32, step: &NextStep) -> Result<String, AllocError>
     ensures { IfOk result (λ text. string_bytes text ≡ step_text ward (step_entry step.now)) }
 {
@@ -208,7 +208,7 @@ fn step_text(alloc: Global, ward: u32, step: &NextStep) -> Result<String, AllocE
     format!(in alloc; "ward {ward}: {words}")
 }
 
-/// Returns the words for what comes next in the election of a ward, or why they aren't available.
+/// Returns the words for what comes next in a ward's election, or the reason why they aren't available.
 pub(crate) fn next_of<S: Alter>(alloc: Global, office: &mut Office<S>, ward: u32) -> LineOutcome
     ensures found { WhenOpenAt (state S.Store) office.old office.new
         (λ s. IsFound s (λ step. replied (step_text ward step)) (next_answer s ward) (page_of result) office.new.closed (state S.Store office.old.held) (state S.Store office.new.held)) }

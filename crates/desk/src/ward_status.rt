@@ -1,4 +1,4 @@
-//! The status of the election of a ward, in one line.
+//! The status of a ward's election, in one line.
 
 ghost use Rattle.std.specs.Prelude.{◌≡◌, IfOk, string_bytes};
 ghost use Rattle.sqlite.specs.Held.{state};
@@ -48,7 +48,7 @@ fn batch_words(alloc: Global, status: &Status) -> Result<String, AllocError>
 }
 
 #[tactic(auto, unfolding(crate::specs::WardStatus::count_words))]
-/// Returns how many doubtful papers are open, and how many stages are counted.
+/// Returns how many doubtful papers are open, and how many stages have been counted.
 fn count_words(alloc: Global, status: &Status) -> Result<String, AllocError>
     ensures { IfOk result (λ text. string_bytes text ≡ count_words (status_entry status.now)) }
 {
@@ -57,7 +57,7 @@ fn count_words(alloc: Global, status: &Status) -> Result<String, AllocError>
 }
 
 #[tactic(auto, unfolding(crate::specs::WardStatus::status_text))]
-/// Returns the status line of a ward, without its line end.
+/// Returns the status line of a ward, without its newline.
 pub(crate) fn status_text(alloc: Global, status: &Status) -> Result<String, AllocError>
     ensures { IfOk result (λ text. string_bytes text ≡ status_text (status_entry status.now)) }
 {
@@ -67,7 +67,7 @@ pub(crate) fn status_text(alloc: Global, status: &Status) -> Result<String, Allo
     format!(in alloc; "{ward}, {batches}, {count}")
 }
 
-/// Returns the status of a ward in words, or why it isn't available.
+/// Returns a ward's status in words, or the reason why it isn't available.
 pub(crate) fn standing_of<S: Alter>(alloc: Global, office: &mut Office<S>, ward: u32) -> LineOutcome
     ensures found { WhenOpenAt (state S.Store) office.old office.new
         (λ s. IsFound s (λ status. replied (status_text status)) (status_answer s ward) (page_of result) office.new.closed (state S.Store office.old.held) (state S.Store office.new.held)) }

@@ -285,9 +285,9 @@ fn denied(alloc: Global, kind: ErrorKind, error: &Error) -> WordsFault
 ///
 /// The order and its values are those that `clap` matches in the words, according to the table of orders. Words that `clap` accepts
 /// are refused only if an allocation fails, if a verdict, an origin or a digest is invalid, if words after `forms` name no form, or
-/// if `serve` has a title but shows nothing in public. Words that `clap` rejects aren't an order: a nonempty text is printed for
-/// them, with status 0 if their first error is that they ask for help or the version, and with status 2 otherwise. If an allocation
-/// fails, that is reported.
+/// if `serve` is given a title but shows nothing in public. Words that `clap` rejects aren't an order: a nonempty text is printed
+/// for them, with status 0 if their first error is that they ask for help or the version, and with status 2 otherwise. If an
+/// allocation fails, that is reported.
 pub fn order<'a>(alloc: Global, words: &'a [&'a str]) -> Result<Order<'a>, WordsFault>
     ensures accepts { IfOk result (λ _. wrong_with (map (λ s. s.now) words.entry.now) ≡ []) }
     ensures denies { IfErr result (IsToldOf (wrong_with (map (λ s. s.now) words.entry.now))) }

@@ -27,7 +27,7 @@ no_text field not_text = by_test (is_utf8 field) refl
 pub not_all_text : (fields : Record) (i : ℕ) (field : List ℕ) → i < length fields → field ≡ get_or fields i [] → ¬ (IsUtf8 field) → list_all is_utf8 fields ≡ false
 not_all_text fields i field there is not_text = list_all_at is_utf8 fields i [] there (ap is_utf8 (sym is) ∙ no_text field not_text)
 
--- one more text was appended
+-- another text was appended
 pub texts_more : (fields : Record) (i : ℕ) (texts : List (Bor (List ℕ))) (text : Bor (List ℕ)) → i < length fields → map (λ t. t.now) texts ≡ take i fields → text.now ≡ get_or fields i []
     → map (λ t. t.now) (texts ++ text ∷ []) ≡ take (i + 1) fields
 texts_more fields i texts text there are is =

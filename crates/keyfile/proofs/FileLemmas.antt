@@ -1,4 +1,4 @@
--- The fault of a file is that of its first faulty record.
+-- A file's fault is the one at its first faulty record.
 use Rattle.std.proofs.Common.{◌≡◌, ◌≢◌, ◌∙◌, ◌≤◌, ◌<◌, ◌+◌, ◌∷◌, ◌++◌, ℕ, suc, List, [], length, Option, Some, None, Result, Ok, Err, refl, sym, ap, arith}
 use Rattle.std.specs.Prelude.{IfErr, IfSome}
 use Rattle.std.proofs.lemmas.Bool.{eq-eqb, ne_eqb, le-ltb, lt-ltb}
@@ -9,7 +9,7 @@ use Rattle.keyfile.specs.declared.fault.FileFault.{FileFault}
 use Rattle.keyfile.specs.declared.fault.Flaw.{Flaw}
 use Rattle.keyfile.specs.declared.fault.Flaw.TheVariants.{Header, RecordLength, TooManyRecords}
 
--- rows that precede the result for other records
+-- rows, followed by the result for other records
 abbrev pub before : {Row : Type 0} → List Row → Result (List Row) FileFault → Result (List Row) FileFault
 before rows (Ok later) = Ok (rows ++ later)
 before rows (Err fault) = Err fault
@@ -41,7 +41,7 @@ module _ {Row : Type 0} (read : ℕ → Record → Result Row Flaw) where
           let whole : row ∷ later ≡ rows = cc in
           rw (ih later are, same, ← whole) (pushed row later (rows_from read (k + length (r ∷ rs)) others))
 
-  -- no fault of these records is at a record with a smaller number
+  -- no fault in the given records is at a record with a smaller number
   pub rows_from-late : (k : ℕ) (records : List Record) → IfErr (rows_from read k records) (λ fault. k ≤ fault.record_number)
   rows_from-late k [] = tt
   rows_from-late k (r ∷ rs) = by_results (read k r) (rows_from read (suc k) rs) (rows_from-late (suc k) rs)
@@ -51,13 +51,13 @@ module _ {Row : Type 0} (read : ℕ → Record → Result Row Flaw) where
       by_results (Ok row) (Err fault) late = omega (arith, late)
       by_results (Ok row) (Ok rows) late = tt
 
--- what the record that follows others is parsed into
+-- what a record that follows others is parsed into
 abbrev pub read_behind : {Row : Type 0} → Format Row → List Record → Record → Result Row Flaw
 read_behind format [] fields = Err Header
 read_behind format (header ∷ others) fields = read_record format header (suc (length others)) fields
 
 module _ {Row : Type 0} (format : Format Row) where
-  -- the result for records that follow those of a file that are parsed into rows
+  -- the result for records that follow a file's first records, which are parsed into rows
   abbrev pub rows_behind : List Record → List Record → Result (List Row) FileFault
   rows_behind [] others = Err (fault_at 0 Header)
   rows_behind (header ∷ records) others = rows_from (read_record format header) (suc (length records)) others
@@ -78,19 +78,19 @@ module _ {Row : Type 0} (format : Format Row) where
   some_record [] rows is = cc
   some_record (header ∷ records) rows is = omega arith
 
-  -- one more record is parsed into a row
+  -- another record is parsed into a row
   pub file_rows-more : (records : List Record) (fields : Record) (rows : List Row) (row : Row) → file_rows format records ≡ Ok rows → read_behind format records fields ≡ Ok row
       → file_rows format (records ++ fields ∷ []) ≡ Ok (rows ++ row ∷ [])
   file_rows-more [] fields rows row is read = cc
   file_rows-more (header ∷ records) fields rows row is read = file_rows-append (header ∷ records) (fields ∷ []) rows is ∙ rw read refl
 
-  -- one more record is faulty, whatever follows
+  -- the next record is faulty, whatever follows it
   pub file_rows-told : (records others : List Record) (fields : Record) (rows : List Row) (flaw : Flaw) → file_rows format records ≡ Ok rows
       → read_behind format records fields ≡ Err flaw → file_rows format (records ++ fields ∷ others) ≡ Err (fault_at (length records) flaw)
   file_rows-told [] others fields rows flaw is read = cc
   file_rows-told (header ∷ records) others fields rows flaw is read = file_rows-append (header ∷ records) (fields ∷ others) rows is ∙ rw read refl
 
-  -- a fault comes after the records that are parsed into rows
+  -- a fault can only be at a record after those that are parsed into rows
   pub file_rows-late : (records others : List Record) (rows : List Row) → file_rows format records ≡ Ok rows
       → IfErr (file_rows format (records ++ others)) (λ fault. length records ≤ fault.record_number)
   file_rows-late [] others rows is = cc

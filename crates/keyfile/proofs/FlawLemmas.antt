@@ -5,7 +5,7 @@ use Rattle.keyfile.specs.Faults.{flaw_batch, flaw_between, flaw_clerk, flaw_text
 use Rattle.keyfile.specs.declared.fault.Flaw.{Flaw}
 use Rattle.keyfile.specs.declared.fault.Flaw.TheVariants.{Header, RecordLength, Number, PaperOrder, Marks, NotUtf8, TooManyRecords, ReadFailed, Memory, OtherKeying, OtherFile}
 
--- the pieces of a flaw, followed by a rest
+-- the pieces of a flaw, followed by other text
 pub flaw_in_pieces : (flaw : Flaw) (rest : List ℕ) → flaw_words flaw ++ (flaw_batch flaw ++ (flaw_between flaw ++ (flaw_clerk flaw ++ rest))) ≡ flaw_text flaw ++ rest
 flaw_in_pieces Header rest = refl
 flaw_in_pieces RecordLength rest = refl

@@ -8,7 +8,7 @@ passes : (b : Bool) → false ≡ not b → b ≡ true
 passes true is = refl
 passes false is = cc
 
--- if its first word is `paper`, the field names the batch and the clerk in the rest of it
+-- a field whose first word is `paper` names the batch and the clerk in the text after that word
 pub names_numbers : (field word rest : List ℕ) (named : Option (ℕ × ℕ)) → word ≡ before_first is_space field → rest ≡ after_first is_space field
     → false ≡ not (bytes_eq word (codes "paper")) → named ≡ numbers_in rest → named ≡ named_in field
 names_numbers field word rest named front back is numbers =

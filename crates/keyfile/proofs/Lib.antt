@@ -1,4 +1,4 @@
--- Lemmas that the proofs of the readers have in common.
+-- Lemmas shared by the proofs for the readers.
 pub mod KeyedLemmas
 pub mod MarkLemmas
 pub mod FieldLemmas

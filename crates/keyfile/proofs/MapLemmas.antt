@@ -1,4 +1,4 @@
--- Tests of borrowed texts agree with tests of the texts; comparing borrowed texts with columns.
+-- Tests on borrowed texts agree with tests on the texts themselves; comparing borrowed texts with columns.
 use Rattle.std.proofs.Common.{◌≡◌, ◌||◌, ◌&&◌, ◌<◌, ◌≤◌, ◌==◌, ℕ, suc, zero, Bool, false, List, [], ◌∷◌, length, map, drop, refl, ap, Bor, arith}
 use Rattle.std.specs.List.{list_all, list_any}
 use Rattle.std.proofs.lemmas.Bool.{ne_eqb}

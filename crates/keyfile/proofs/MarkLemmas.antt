@@ -6,7 +6,7 @@ use Rattle.std.proofs.lemmas.List.{get_or-map, length-map, length-take, take_all
 use Rattle.keyfile.specs.Keying.{field_text, is_doubtful}
 use Rattle.keyfile.proofs.MapLemmas.{list_all_map}
 
--- if the first mark is the letter D, it depends on the others whether the paper is doubtful
+-- if the first mark is the letter D, the other marks determine whether the paper is doubtful
 pub doubtful_by_others : (marks : List (Bor (List ℕ))) (other : Bor (List ℕ)) → 1 ≤ length marks → true ≡ bytes_eq (get_or marks 0 other).now (codes "D")
     → list_all (λ t. length t.now == 0) (take (length marks - 1) (drop 1 marks)) ≡ is_doubtful (map (λ t. t.now) marks)
 doubtful_by_others [] other some letter = absurd (omega (arith, some))
@@ -14,7 +14,7 @@ doubtful_by_others (m ∷ ms) other some letter =
     let size : suc (length ms) - 1 ≡ length ms = omega arith in
     rw (size, take_all (length ms) ms (omega arith), sym letter) (sym (list_all_map (λ t. length t == 0) ms))
 
--- one more field is joined to the others
+-- another field is joined to the previous ones
 join_push : (fields : List (List ℕ)) (field : List ℕ) → join_with_byte 44 (fields ++ field ∷ []) ≡ join_with_byte 44 fields ++ field_text (length fields) field
 join_push [] field = refl
 join_push (f ∷ []) field = refl
@@ -26,7 +26,7 @@ join_push (f ∷ h ∷ fields) field =
     same : (n : ℕ) → field_text (suc n) field ≡ field_text (suc (suc n)) field
     same n = rw (ne_eqb (suc n) 0 (λ e. omega (arith, e)), ne_eqb (suc (suc n)) 0 (λ e. omega (arith, e))) refl
 
--- the text so far is extended by one field
+-- the text so far is extended by another field
 pub joined_more : (marks : List (Bor (List ℕ))) (i : ℕ) (other : Bor (List ℕ)) (text more : List ℕ) → i < length marks → text ≡ join_with_byte 44 (take i (map (λ t. t.now) marks))
     → more ≡ text ++ field_text i (get_or marks i other).now → more ≡ join_with_byte 44 (take (i + 1) (map (λ t. t.now) marks))
 joined_more marks i other text more there is pushed =

@@ -87,7 +87,7 @@ module _ {R : Type 0} (rem : R → Option (List ℕ)) where
       by_bytes (Some xs) (Some ys) None t h = absurd t
       by_bytes (Some xs) (Some ys) (Some zs) t h = file-whole xs records a.state ys h (ended _ _ _ t)
 
-  -- the file's records begin with those that were read
+  -- the file's records begin with the ones that were read
   pub after-begins : (a : Reader R) (bytes : Option (List ℕ)) (records : List Record) → IsAfter rem bytes records a → Known bytes (λ xs. Begins xs records)
   after-begins a bytes records after = by_bytes bytes (source_of rem a) after.follows
     where

@@ -38,7 +38,7 @@ takes cfg s fields field b (c ∷ rest) p is =
     by_end true is ih = let same : c ∷ rest ≡ p.2 = cc in rw (← same) (omega arith)
     by_end false is ih = let shorter = ih is in omega (arith, shorter)
 
--- enough steps for the records in these bytes: one more than there are bytes, or none if there is no record
+-- enough steps for the records in the given bytes: one more than there are bytes, or none if there is no record
 abbrev Suffices : ℕ → State → List ℕ → Type 0
 Suffices n s xs = (length xs < n) ⊎ ((xs ≡ []) × (ends_at_end s ≡ false))
 
@@ -88,7 +88,7 @@ unfolding records_from
 no_more records s ys zero end = append-nil records
 no_more records s ys (suc m) end = rw end (append-nil records)
 
--- they are all records of the file if no other record follows
+-- the records read so far are all the records of the file if no other record follows
 pub file-whole : (bytes : List ℕ) (records : List Record) (s : State) (ys : List ℕ) → Reached default_config st.StartRecord (strip_bom bytes) records s ys
     → next_record default_config s [] [] ys ≡ None → file_records bytes ≡ records
 file-whole bytes records s ys h end = let (m, is) = reached-begins bytes records s ys h in is ∙ no_more records s ys m end

@@ -62,7 +62,7 @@ another_clerk : keying_of (codes "paper 12/9,1,2,3") ≡ Err (fault_at 0 (OtherK
 unfolding chars encode is_utf8 next_record records_from strip_bom
 another_clerk = refl
 
--- the file of a batch of another ward, which has other columns, is reported by the batch that it names
+-- a file for a batch from another ward has other columns, but what is reported is the batch that it names
 another_ward : keying_of (codes "paper 13/9,1,2") ≡ Err (fault_at 0 (OtherKeying 13 9))
 unfolding chars encode is_utf8 next_record records_from strip_bom
 another_ward = refl
@@ -75,7 +75,7 @@ no_columns : keying_of (codes "paper 12/9") ≡ Err (fault_at 0 (OtherKeying 12 
 unfolding chars encode is_utf8 next_record records_from strip_bom
 no_columns = refl
 
--- if the header names neither batch nor clerk, or this batch and this clerk, the columns decide
+-- if the header names neither batch nor clerk, or names this batch and clerk, the columns decide
 own_with_other_columns : keying_of (codes "paper 12/4,1,2") ≡ Err (fault_at 0 Header)
 unfolding chars encode is_utf8 next_record records_from strip_bom
 own_with_other_columns = refl

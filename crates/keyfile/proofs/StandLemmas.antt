@@ -55,7 +55,7 @@ module _ {Row : Type 0} (format : Format Row) where
       })
 
   module _ {R : Type 0} (rem : R → Option (List ℕ)) (bytes : Option (List ℕ)) (number : ℕ) (rows : List Row) (a : Reader R) (st : StandsAt rem bytes format number rows a) where
-    -- reading was stopped
+    -- reading stopped
     pub stands-stopped : (fault : FileFault) → fault.record_number ≡ number → is_stop fault.flaw ≡ true → Told format bytes fault
     stands-stopped fault at stop =
         known-map bytes (λ xs (starts : Begins xs st.records). stopped_at xs st.records rows fault starts (at ∙ sym st.count) st.read stop) (after-begins rem a bytes st.records st.after)
@@ -81,7 +81,7 @@ module _ {Row : Type 0} (format : Format Row) where
         by_flaw OtherFile is ends = absurd ends
 
     module _ (b : Reader R) (fields : Record) (next : IsNext rem bytes st.records fields b) where
-      -- one more record was parsed into a row
+      -- another record was parsed into a row
       pub stands-more : (row : Row) → number ≤ format.most → read_as_text format number fields ≡ Ok row → StandsAt rem bytes format (number + 1) (rows ++ row ∷ []) b
       stands-more row few read =
           let some = some_record format st.records rows st.read in
@@ -113,7 +113,7 @@ module _ {Row : Type 0} (format : Format Row) where
   -- ---- the header
 
   module _ {R : Type 0} (rem : R → Option (List ℕ)) (bytes : Option (List ℕ)) where
-    -- reading was stopped at the header, and there is no faulty record before it
+    -- reading stopped at the header, and there is no faulty record before it
     pub header-stopped : (fault : FileFault) → fault.record_number ≡ 0 → is_stop fault.flaw ≡ true → Told format bytes fault
     header-stopped fault at stop = by_bytes bytes
       where

@@ -1,4 +1,4 @@
--- The file of batches.
+-- The batch file.
 use Rattle.std.specs.Prelude.{ℕ, Bool, false, ◌&&◌, if◌then◌else◌, List, [], ◌∷◌, Option, Some, None, Result, Ok, Err, codes, bytes_eq}
 use Rattle.keyfile.specs.Records.{Record}
 use Rattle.paper.specs.Digits.{plain_number_in}
@@ -7,7 +7,7 @@ use Rattle.keyfile.specs.declared.batches.BatchRow.{BatchRow}
 use Rattle.keyfile.specs.declared.fault.Flaw.{Flaw}
 use Rattle.keyfile.specs.declared.fault.Flaw.TheVariants.{Header, RecordLength, Number}
 
--- a batch to be given out: its number, its ward, the number of its papers, and the two clerks who key it
+-- a batch to give out: its number, its ward, the number of its papers, and the two clerks who key it
 pub record BatchRowEntry : Type 0 where
   pub batch : ℕ
   pub ward : ℕ
@@ -19,7 +19,7 @@ pub record BatchRowEntry : Type 0 where
 abbrev pub batch_row_entry : BatchRow → BatchRowEntry
 batch_row_entry row = record { batch = row.batch; ward = row.ward; size = row.size; first_clerk = row.first_clerk; second_clerk = row.second_clerk }
 
--- the header is `batch,ward,size,first clerk,second clerk`: its first three fields are these, and the others name the clerks
+-- the header is `batch,ward,size,first clerk,second clerk`: whether the given fields are its first three; the other two name the clerks
 abbrev pub names_pile : List ℕ → List ℕ → List ℕ → Bool
 names_pile batch ward size = bytes_eq batch (codes "batch") && (bytes_eq ward (codes "ward") && bytes_eq size (codes "size"))
 
@@ -34,12 +34,12 @@ is_batch_header other = false
 abbrev pub batch_header_flaw : Record → Option Flaw
 batch_header_flaw fields = if is_batch_header fields then None else Some Header
 
--- what is read using a number, if there is one
+-- the result of continuing with a number, if there is one; otherwise the flaw `Number`
 abbrev pub numbered_by : {Row : Type 0} → Option ℕ → (ℕ → Result Row Flaw) → Result Row Flaw
 numbered_by None read = Err Number
 numbered_by (Some number) read = read number
 
--- a record is a batch if all of its five fields are numbers
+-- a record is a batch if all five of its fields are numbers
 abbrev pub batch_in : Record → Result BatchRowEntry Flaw
 batch_in (batch ∷ ward ∷ size ∷ first ∷ second ∷ []) =
     numbered_by (plain_number_in batch) (λ b. numbered_by (plain_number_in ward) (λ w. numbered_by (plain_number_in size) (λ n.
@@ -51,6 +51,6 @@ batch_in other = Err RecordLength
 abbrev pub most_batches : ℕ
 most_batches = 9999
 
--- the format of the file of batches, which contains at most that many
+-- the format of the batch file, which contains at most that many batches
 abbrev pub batches : Format BatchRowEntry
 batches = record { header_flaw = batch_header_flaw; most = most_batches; read = λ k fields. batch_in fields }

@@ -1,4 +1,4 @@
--- The file of candidates.
+-- The candidate file.
 use Rattle.std.specs.Prelude.{ℕ, Bool, false, ◌&&◌, if◌then◌else◌, List, [], ◌∷◌, Option, Some, None, Result, Ok, Err, codes, bytes_eq, string_bytes}
 use Rattle.keyfile.specs.Records.{Record}
 use Rattle.paper.specs.Digits.{plain_number_in}
@@ -7,7 +7,7 @@ use Rattle.keyfile.specs.declared.candidates.CandidateRow.{CandidateRow}
 use Rattle.keyfile.specs.declared.fault.Flaw.{Flaw}
 use Rattle.keyfile.specs.declared.fault.Flaw.TheVariants.{Header, RecordLength, Number}
 
--- a candidate to be added: the number of the ward, the number and the name of the candidate
+-- a candidate to add: the ward's number, and the candidate's number and name
 abbrev pub CandidateEntry : Type 0
 CandidateEntry = ℕ × ℕ × List ℕ
 
@@ -24,7 +24,7 @@ is_candidate_header other = false
 abbrev pub candidate_header_flaw : Record → Option Flaw
 candidate_header_flaw fields = if is_candidate_header fields then None else Some Header
 
--- the candidate with this name, if both numbers can be read
+-- the candidate with the given name, if both numbers can be read
 abbrev pub numbered : Option ℕ → Option ℕ → List ℕ → Result CandidateEntry Flaw
 numbered (Some ward) (Some candidate) name = Ok (ward, candidate, name)
 numbered (Some ward) None name = Err Number
@@ -39,6 +39,6 @@ candidate_in other = Err RecordLength
 abbrev pub most_candidates : ℕ
 most_candidates = 2970
 
--- the format of the file of candidates, which contains at most that many
+-- the format of the candidate file, which contains at most that many candidates
 abbrev pub candidates : Format CandidateEntry
 candidates = record { header_flaw = candidate_header_flaw; most = most_candidates; read = λ k fields. candidate_in fields }

@@ -15,7 +15,7 @@ use Rattle.keyfile.specs.declared.fault.Flaw.TheVariants.{OtherFile}
 abbrev pub digest_bytes : FileDigest → List ℕ
 digest_bytes digest = digest.bytes
 
--- the digest that is given, if any
+-- the given digest, if any
 abbrev pub asked_digest : Option FileDigest → Option (List ℕ)
 asked_digest digest = option_map digest_bytes digest
 
@@ -23,14 +23,14 @@ asked_digest digest = option_map digest_bytes digest
 abbrev pub digest_in : List ℕ → Option (List ℕ)
 digest_in text = result_ok (decode_sized text 32)
 
--- P holds for the bytes that a file is read as. If the file's own bytes are known, they are these. If a digest is given, the bytes have this digest, even if the
+-- P holds for the bytes that a file is read as. If the file's own bytes are known, they are the same. If a digest is given, the bytes have that digest, even if the
 -- file's own bytes aren't known.
 abbrev pub IsReadAs : Option (List ℕ) → Option (List ℕ) → (List ℕ → Type 0) → Type 0
 IsReadAs None told P = Known told P
 IsReadAs (Some digest) told P = (bytes : List ℕ) × (sha256 bytes ≡ digest) × Known told (λ own. own ≡ bytes) × P bytes
 
--- What may be reported for a file's bytes. If a digest is given and they have a different one, this is reported; otherwise whatever is reported for any file. In
--- either case it may be reported instead that reading was stopped.
+-- What may be reported for a file with the given bytes. If a digest is given and the bytes have a different one, that is reported; otherwise, whatever is reported
+-- for any file. Either way, the report may instead be that reading stopped.
 abbrev pub IsFaultBy : {Row : Type 0} → Option (List ℕ) → Format Row → List ℕ → FileFault → Type 0
 IsFaultBy None format bytes fault = IsFaultOf format (file_records bytes) fault
 IsFaultBy (Some digest) format bytes fault =

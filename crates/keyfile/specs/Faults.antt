@@ -44,7 +44,7 @@ flaw_text flaw = flaw_words flaw
 abbrev pub file_fault_text : FileFault → List ℕ
 file_fault_text fault = codes "file fault " ++ (decimal (flaw_number fault.flaw) ++ (codes " at record " ++ (decimal fault.record_number ++ (codes ": " ++ flaw_text fault.flaw))))
 
--- the rest of the text of a flaw, in three parts: the batch, the text in between, and the clerk; all are empty if the flaw names neither
+-- the rest of a flaw's text, in three parts: the batch, the text in between, and the clerk; all are empty if the flaw names neither
 abbrev pub flaw_batch : Flaw → List ℕ
 flaw_batch (OtherKeying batch clerk) = decimal batch
 flaw_batch _ = []
@@ -57,7 +57,7 @@ abbrev pub flaw_clerk : Flaw → List ℕ
 flaw_clerk (OtherKeying batch clerk) = decimal clerk
 flaw_clerk _ = []
 
--- whether a flaw isn't a flaw of the file but the reason why reading it was stopped
+-- whether a flaw is the reason why reading stopped, rather than something wrong with the file
 abbrev pub is_stop : Flaw → Bool
 is_stop Header = false
 is_stop RecordLength = false

@@ -54,7 +54,7 @@ abbrev pub file_rows : {Row : Type 0} → Format Row → List Record → Result 
 file_rows format [] = Err (fault_at 0 Header)
 file_rows format (header ∷ others) = behind_header (text_header_flaw format header) (rows_from (read_record format header) 1 others)
 
--- what is reported for a file: either its own fault, or that reading was stopped at a record, in which case no record before that one is faulty
+-- what is reported for a file: either its own fault, or that reading stopped at a record, in which case no record before that one is faulty
 pub record IsFaultOf {Row : Type 0} (format : Format Row) (records : List Record) (fault : FileFault) : Type 0 where
   pub own : is_stop fault.flaw ≡ false → file_rows format records ≡ Err fault
   pub within : is_stop fault.flaw ≡ true → fault.record_number ≤ length records

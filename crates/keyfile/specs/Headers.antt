@@ -18,11 +18,11 @@ in_range (Some batch) (Some clerk) = if nat_le batch 9999 && nat_le clerk 999 th
 in_range (Some batch) None = None
 in_range None clerk = None
 
--- the batch and the clerk whose numbers a text consists of, separated by a slash
+-- the batch and the clerk in a text that consists of their numbers, separated by a slash
 abbrev pub numbers_in : List ℕ → Option (ℕ × ℕ)
 numbers_in text = in_range (plain_number_in (before_first is_slash text)) (plain_number_in (after_first is_slash text))
 
--- the batch and the clerk that a first field names: it consists of `paper`, a space and their numbers
+-- the batch and the clerk that a first field names if it consists of `paper`, a space and their numbers
 abbrev pub named_in : List ℕ → Option (ℕ × ℕ)
 named_in field = if bytes_eq (before_first is_space field) (codes "paper") then numbers_in (after_first is_space field) else None
 

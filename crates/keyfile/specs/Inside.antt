@@ -16,14 +16,14 @@ abbrev pub wanted : List Record → Option ℕ
 wanted [] = None
 wanted (first ∷ others) = Some (length first)
 
--- the remaining bytes follow these records, if the bytes are known
+-- the remaining bytes follow the given records, if the bytes are known
 abbrev pub Follows : Option (List ℕ) → List Record → State → Option (List ℕ) → Type 0
 Follows None records s left = ⊤
 Follows (Some bytes) records s None = ⊥
 Follows (Some bytes) records s (Some rest) = Reached default_config st.StartRecord (strip_bom bytes) records s rest
 
 module _ {R : Type 0} (rem : R → Option (List ℕ)) where
-  -- the reader has returned these records of a file, and continues after them
+  -- the reader has returned the given records of a file, and continues after them
   pub record IsAfter (bytes : Option (List ℕ)) (records : List Record) (file : Reader R) : Type 0 where
     pub config : reader_config file ≡ default_config
     pub trim : reader_trim file ≡ trim.None
@@ -33,19 +33,19 @@ module _ {R : Type 0} (rem : R → Option (List ℕ)) where
     pub length : expected_len file ≡ wanted records
     pub follows : Follows bytes records (reader_state file) (source_of rem file)
 
-  -- the reader has returned one more record, with the same length as the first one
+  -- the reader has returned another record, with the same length as the first one
   pub record IsNext (bytes : Option (List ℕ)) (records : List Record) (fields : Record) (file : Reader R) : Type 0 where
     pub after : IsAfter bytes (records ++ fields ∷ []) file
     pub even : IfSome (wanted records) (λ n. length fields ≡ n)
 
-  -- this many records were read, including the header, and those after the header were parsed into these rows
+  -- the given number of records have been read, including the header, and those after the header have been parsed into the given rows
   pub record StandsAt {Row : Type 0} (bytes : Option (List ℕ)) (format : Format Row) (number : ℕ) (rows : List Row) (file : Reader R) : Type 0 where
     pub records : List Record
     pub count : length records ≡ number
     pub after : IsAfter bytes records file
     pub read : file_rows format records ≡ Ok rows
 
--- the records of a file begin with these records
+-- a file's records begin with the given ones
 abbrev pub Begins : List ℕ → List Record → Type 0
 Begins bytes records = (others : List Record) × (file_records bytes ≡ records ++ others)
 
@@ -53,7 +53,7 @@ Begins bytes records = (others : List Record) × (file_records bytes ≡ records
 abbrev pub IsUneven : List ℕ → List Record → Type 0
 IsUneven bytes records = (fields : Record) × (n : ℕ) × Begins bytes (records ++ fields ∷ []) × (wanted records ≡ Some n) × (n ≢ length fields)
 
--- why no record was read after these records
+-- why no record was read after the given ones
 abbrev pub EndsBefore : Option (List ℕ) → List Record → Flaw → Type 0
 EndsBefore bytes records RecordLength = Known bytes (λ xs. IsUneven xs records)
 EndsBefore bytes records ReadFailed = ⊤

@@ -1,4 +1,4 @@
--- The file of a keying.
+-- The file with a keying.
 use Rattle.std.specs.Prelude.{◌≡◌, ◌≤◌, ℕ, Bool, true, false, ◌&&◌, ◌||◌, ◌==◌, if◌then◌else◌, List, [], ◌∷◌, length, Option, Some, None, Result, Ok, Err, codes, bytes_eq}
 use Rattle.std.specs.List.{list_all, list_any, join_with_byte}
 use Rattle.keyfile.specs.Headers.{first_field_flaw}
@@ -10,12 +10,12 @@ use Rattle.keyfile.specs.Files.{Format}
 use Rattle.keyfile.specs.declared.fault.Flaw.{Flaw}
 use Rattle.keyfile.specs.declared.fault.Flaw.TheVariants.{Header, RecordLength, Number, PaperOrder, Marks}
 
--- whether a number was read and is this one
+-- whether a number was read and is the given one
 abbrev pub is_told : Option ℕ → ℕ → Bool
 is_told (Some n) k = n == k
 is_told None k = false
 
--- whether the fields are these numbers in decimal, one per column
+-- whether the fields are the given numbers in decimal, one per column
 abbrev pub are_columns : Record → List ℕ → Bool
 are_columns [] [] = true
 are_columns (field ∷ fields) (column ∷ columns) = is_told (plain_number_in field) column && are_columns fields columns
@@ -25,21 +25,22 @@ are_columns fields columns = false
 abbrev pub columns_flaw : List ℕ → Record → Option Flaw
 columns_flaw columns fields = if are_columns fields columns then None else Some Header
 
--- the first of two flaws that exists, if any
+-- the first of two flaws, or the second if there is no first one
 abbrev pub first_flaw : Option Flaw → Option Flaw → Option Flaw
 first_flaw (Some flaw) later = Some flaw
 first_flaw None later = later
 
--- What is wrong with the header of a keying of a batch by a clerk. Its first field is checked before its columns, because a batch of another ward has other columns.
+-- What is wrong with the header of a clerk's keying of a batch. Its first field is checked before its columns, because a batch from another ward has other
+-- columns.
 abbrev pub keying_header_flaw : List ℕ → ℕ → ℕ → Record → Option Flaw
 keying_header_flaw columns batch clerk [] = Some Header
 keying_header_flaw columns batch clerk (first ∷ fields) = first_flaw (first_field_flaw batch clerk first) (columns_flaw columns fields)
 
--- whether a byte is a comma, a double quote or part of a line end
+-- whether a byte is a comma, a double quote or part of a line break
 abbrev pub is_break : ℕ → Bool
 is_break b = (b == 44) || ((b == 34) || ((b == 10) || (b == 13)))
 
--- whether a mark field contains one of these bytes
+-- whether a mark field contains such a byte
 abbrev pub breaks_marks : List ℕ → Bool
 breaks_marks mark = list_any is_break mark
 
@@ -62,7 +63,7 @@ of_number k None marks = Err Number
 of_number k (Some told) marks =
     if told == k then (if list_any breaks_marks marks then Err Marks else Ok (marks_text marks)) else Err PaperOrder
 
--- what a record is parsed into: the paper with this number
+-- what a record is parsed into: the paper with the given number
 abbrev pub paper_in : ℕ → Record → Result (List ℕ) Flaw
 paper_in k [] = Err RecordLength
 paper_in k (paper ∷ marks) = of_number k (plain_number_in paper) marks
@@ -71,7 +72,7 @@ paper_in k (paper ∷ marks) = of_number k (plain_number_in paper) marks
 abbrev pub most_papers : ℕ
 most_papers = 500
 
--- the format of the file of a clerk's keying of a batch whose papers have these columns, which contains at most the papers of one batch
+-- the format of the file with a clerk's keying of a batch whose papers have the given columns; the file contains at most the papers of one batch
 abbrev pub keying : List ℕ → ℕ → ℕ → Format (List ℕ)
 keying columns batch clerk = record { header_flaw = keying_header_flaw columns batch clerk; most = most_papers; read = paper_in }
 
@@ -80,7 +81,7 @@ abbrev pub plain_header_flaw : List ℕ → Record → Option Flaw
 plain_header_flaw columns [] = Some Header
 plain_header_flaw columns (first ∷ fields) = if bytes_eq first (codes "paper") && are_columns fields columns then None else Some Header
 
--- the format of the file of a keying whose header names neither a batch nor a clerk
+-- the format of the file with a keying whose header names neither a batch nor a clerk
 abbrev pub plain_keying : List ℕ → Format (List ℕ)
 plain_keying columns = record { header_flaw = plain_header_flaw columns; most = most_papers; read = paper_in }
 

@@ -1,4 +1,4 @@
-//! The file of batches, for one ward or several: `batch,ward,size,first clerk,second clerk`.
+//! The batch file, for one ward or several: `batch,ward,size,first clerk,second clerk`.
 
 ghost use Rattle.std.specs.Prelude.{◌≡◌, false, ◌⊎◌, ◌∷◌, [], map, IfOk, IfErr, Ok, Err, None, Some};
 ghost use Rattle.keyfile.specs.Batches.{BatchRowEntry, batch_in, batch_row_entry, batches, is_batch_header, names_clerks, names_pile};
@@ -35,8 +35,8 @@ pub struct BatchRow {
 /// records as parsed by `csv`. The fault is the first flaw of the first faulty record, except that `ReadFailed` and `Memory` may be
 /// reported at any record up to that one.
 ///
-/// If a digest is given, the rows are read from bytes that have it. A file with other bytes is refused with `OtherFile`, whatever
-/// else is wrong with it.
+/// If a digest is given, the rows are read from bytes that have that digest. A file with other bytes is refused with `OtherFile`,
+/// whatever else is wrong with it.
 pub fn read_batches<R: Read + Drop>(
     alloc: Global,
     r: R,
@@ -48,7 +48,7 @@ pub fn read_batches<R: Read + Drop>(
     read_file(alloc, r, digest, &BatchFormat)
 }
 
-/// The format of the file of batches.
+/// The format of the batch file.
 #[derive(Drop)]
 struct BatchFormat;
 

@@ -1,4 +1,4 @@
-//! The file of candidates, for one ward or several: `ward,candidate,name`.
+//! The candidate file, for one ward or several: `ward,candidate,name`.
 
 ghost use Rattle.std.specs.Prelude.{◌≡◌, false, ◌⊎◌, map, IfOk, IfErr, Ok, Err};
 ghost use Rattle.keyfile.specs.Candidates.{CandidateEntry, candidate_entry, candidates, is_candidate_header, numbered};
@@ -19,8 +19,8 @@ use std::io::Read;
 /// The maximum number of candidates in a file: 30 in each of 99 wards.
 const MOST_CANDIDATE_ROWS: u32 = 2970;
 
-/// A candidate in an import file. The numbers have 1 to 5 digits, and the name is any text. Whether they are in range is checked
-/// when the candidate is added.
+/// A candidate in an import file. The numbers have 1 to 5 digits, and the name is any text. Whether the numbers are in range is
+/// checked when the candidate is added.
 #[derive(Drop)]
 pub struct CandidateRow {
     pub ward: u32,
@@ -34,8 +34,8 @@ pub struct CandidateRow {
 /// `csv`. The fault is the first flaw of the first faulty record, except that `ReadFailed` and `Memory` may be reported at any
 /// record up to that one.
 ///
-/// If a digest is given, the rows are read from bytes that have it. A file with other bytes is refused with `OtherFile`, whatever
-/// else is wrong with it.
+/// If a digest is given, the rows are read from bytes that have that digest. A file with other bytes is refused with `OtherFile`,
+/// whatever else is wrong with it.
 pub fn read_candidates<R: Read + Drop>(
     alloc: Global,
     r: R,
@@ -47,7 +47,7 @@ pub fn read_candidates<R: Read + Drop>(
     read_file(alloc, r, digest, &CandidateFormat)
 }
 
-/// The format of the file of candidates.
+/// The format of the candidate file.
 #[derive(Drop)]
 struct CandidateFormat;
 
@@ -90,7 +90,7 @@ fn is_candidate_header(fields: &[&str]) -> bool
     }
 }
 
-/// Parses the numbers of the ward and the candidate, and returns the candidate with this name.
+/// Parses the numbers of the ward and the candidate, and returns the candidate with the given name.
 fn candidate_row(
     alloc: Global,
     ward: &str,

@@ -39,8 +39,8 @@ impl FileDigest {
     }
 }
 
-/// Returns all bytes of a file with this digest. Fails if it is another file (`OtherFile`), its last read failed (`ReadFailed`), or
-/// an allocation failed (`Memory`). The whole file is read into memory, however long it is.
+/// Returns all bytes of a file with this digest. Fails if the file has a different digest (`OtherFile`), its last read failed
+/// (`ReadFailed`), or an allocation failed (`Memory`). The whole file is read into memory, however long it is.
 pub(crate) fn read_whole<R: Read + LastRead>(
     alloc: Global,
     file: &mut R,

@@ -20,7 +20,7 @@ pub enum Flaw {
     Number,
     /// The number of the paper isn't the number of the record.
     PaperOrder,
-    /// A mark field contains a comma, a double quote or a line end.
+    /// A mark field contains a comma, a double quote or a line break.
     Marks,
     /// A field isn't UTF-8.
     NotUtf8,
@@ -40,7 +40,7 @@ pub enum Flaw {
 #[derive(Clone, Copy, Debug, PartialEq, Eq)]
 pub struct FileFault {
     pub flaw: Flaw,
-    /// The number of the record, where the header is 0. For `ReadFailed` and `Memory` it is the record being read.
+    /// The record's number; the header is record 0. For `ReadFailed` and `Memory`, this is the record being read.
     pub record_number: u32,
 }
 
@@ -140,7 +140,7 @@ impl From<AllocError> for Flaw {
     }
 }
 
-/// Returns the value, or the flaw as a fault at the record with this number.
+/// Returns the value, or the flaw as a fault at the record with the given number.
 pub(crate) fn at_record<T>(number: u32, outcome: Result<T, Flaw>) -> Result<T, FileFault>
     ensures ok { IfOk result (λ value. outcome ≡ Ok value) }
     ensures err { IfErr result (λ fault. (outcome ≡ Err fault.flaw) × (fault.record_number ≡ number)) }

@@ -40,7 +40,7 @@ pub(crate) trait FileFormat {
         ensures is { result ≡ (format self.now).header_flaw (map (λ f. f.now) fields.now) }
         ensures file { IfSome result (λ flaw. is_failed_read flaw ≡ false) };
 
-    /// Returns the row for the record with this number, or the record's first flaw, or `Memory` if an allocation fails.
+    /// Returns the row for the record with the given number, or the record's first flaw, or `Memory` if an allocation fails.
     fn read(&self, alloc: Global, number: u32, fields: &[&str]) -> Result<Self::Row, Flaw>
         ensures ok { IfOk result (λ row. (format self.now).read number (map (λ f. f.now) fields.now) ≡ Ok (entry row)) }
         ensures err { IfErr result (λ flaw. (flaw ≡ Flaw.Memory) ⊎ ((format self.now).read number (map (λ f. f.now) fields.now) ≡ Err flaw)) }
@@ -138,7 +138,7 @@ fn check_header<F: FileFormat>(alloc: Global, raw: &ByteRecord, format: &F) -> R
     }
 }
 
-/// Returns the row for the record with this number, or None at the end of the file.
+/// Returns the row for the record with the given number, or None at the end of the file.
 fn next_row<R: Read + LastRead + Drop, F: FileFormat>(
     alloc: Global,
     file: &mut Reader<R>,
@@ -160,7 +160,7 @@ fn next_row<R: Read + LastRead + Drop, F: FileFormat>(
     }
 }
 
-/// Returns the row for the record with this number, or its first flaw other than a wrong length or too many records.
+/// Returns the row for the record with the given number, or its first flaw other than a wrong length or too many records.
 fn row_of<F: FileFormat>(
     alloc: Global,
     format: &F,
@@ -175,7 +175,7 @@ fn row_of<F: FileFormat>(
     format.read(alloc, number, &fields)
 }
 
-/// Checks that the file ends before the record with this number, which is the first one past the limit.
+/// Checks that the file ends before the record with the given number, which is the first one past the limit.
 fn check_end<R: Read + LastRead + Drop, F: FileFormat>(
     alloc: Global,
     file: &mut Reader<R>,

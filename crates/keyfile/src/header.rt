@@ -53,7 +53,7 @@ fn named_in(field: &str) -> Option<(u32, u32)>
     in_range(plain_number_in(batch), plain_number_in(clerk))
 }
 
-/// Returns what is wrong with the first field of a keying of a batch by a clerk, if anything is. The flaw is `Header` if the field
+/// Returns what is wrong with the first field of a clerk's keying of a batch, if anything is. The flaw is `Header` if the field
 /// is not `paper` and doesn't name a batch and a clerk in range, and `OtherKeying` if it names another batch or clerk.
 pub(crate) fn first_field_flaw(field: &str, batch: u32, clerk: u32) -> Option<Flaw>
     ensures is { result ≡ first_field_flaw batch clerk field.now }

@@ -1,4 +1,4 @@
-//! The file of a clerk's keying of a batch: a header of `paper` and the candidates' numbers, followed by the papers.
+//! The file with a clerk's keying of a batch: a header of `paper` and the candidates' numbers, followed by the papers.
 
 ghost use Rattle.std.specs.Prelude.{◌≡◌, false, ◌++◌, ◌==◌, List, ℕ, length, map, IfOk, IfErr, OnOk, Ok, Err, string_bytes};
 ghost use Rattle.std.specs.List.{join_with_byte, list_all, list_any};
@@ -21,7 +21,7 @@ use std::io::Read;
 /// The maximum number of papers in a file: those of one batch.
 pub(crate) const MOST_PAPERS: u32 = 500;
 
-/// Returns the marks texts in a file with a clerk's keying of a batch whose papers have these columns, in the order of the papers.
+/// Returns the marks texts in a file with a clerk's keying of a batch whose papers have the given columns, in paper order.
 ///
 /// The header is `paper` followed by the columns in ascending order. It is followed by at most 500 records, each of which consists
 /// of a paper number (1, 2, 3, ..) and one field per column. A marks text is `D` if the first field is `D` and the others are
@@ -29,9 +29,9 @@ pub(crate) const MOST_PAPERS: u32 = 500;
 /// of the first faulty record, except that `ReadFailed` and `Memory` may be reported at any record up to that one.
 ///
 /// Instead of `paper`, the header may begin with `paper 12/4`, which says that the file is a keying of batch 12 by clerk 4. A file
-/// of another batch or by another clerk is refused with `OtherKeying`, whatever its columns are; any other file with the wrong
+/// for another batch or by another clerk is refused with `OtherKeying`, whatever its columns are; any other file with the wrong
 /// columns is refused with `Header`. A header that isn't UTF-8 is also refused with `Header`, and names nothing. If a digest is
-/// given, the papers are read from bytes that have it, and a file with other bytes is refused with `OtherFile`.
+/// given, the papers are read from bytes that have that digest, and a file with other bytes is refused with `OtherFile`.
 pub fn read_keying<R: Read + Drop>(
     alloc: Global,
     r: R,
@@ -53,7 +53,7 @@ pub fn read_keying<R: Read + Drop>(
     read_file(alloc, r, digest, &format)
 }
 
-/// The format of the file of a clerk's keying of a batch.
+/// The format of the file with a clerk's keying of a batch.
 #[derive(Drop)]
 pub(crate) struct KeyingFormat {
     pub(crate) columns: Columns,
@@ -96,7 +96,7 @@ impl FileFormat for KeyingFormat {
     }
 }
 
-/// Returns true if the texts are these numbers in decimal, one per column.
+/// Returns true if the texts are the given numbers in decimal, one per column.
 pub(crate) fn are_columns(texts: &[&str], columns: &[u8]) -> bool
     ensures { result ≡ are_columns (map (λ t. t.now) texts.now) columns.now }
 {
@@ -128,14 +128,14 @@ fn check_paper(number: u32, paper: &str, marks: &[&str]) -> Result<(), Flaw>
     }
 }
 
-/// Returns true if some mark field contains a character that isn't allowed in a marks text.
+/// Returns true if any mark field contains a character that isn't allowed in a marks text.
 fn any_breaks(marks: &[&str]) -> bool
     ensures { result ≡ list_any (λ t. breaks_marks t.now) marks.now }
 {
     marks.iter().any(|mark| breaks_marks(mark))
 }
 
-/// Returns true if a mark field contains a comma, a double quote or a line end.
+/// Returns true if a mark field contains a comma, a double quote or a line break.
 fn breaks_marks(mark: &str) -> bool
     ensures { result ≡ breaks_marks mark.now }
 {

@@ -1,7 +1,7 @@
 //! Import files of candidates, batches and keyings, each of which is either read completely or refused.
 //!
 //! [`read_candidates`] returns the [`CandidateRow`]s in a file, [`read_batches`] the [`BatchRow`]s, and [`read_keying`] the marks
-//! text of each paper, in the form that the crate `paper` reads. A [`FileFault`] gives the first faulty record and its first
+//! text of each paper, in the form that the `paper` crate reads. A [`FileFault`] gives the first faulty record and its first
 //! [`Flaw`]; the header is record 0. No row is returned before the whole file has been read. Each function can be given a
 //! [`FileDigest`], and then returns no rows from a file with a different digest. [`plain`] contains versions for candidates and
 //! keyings without these options.

@@ -23,7 +23,7 @@ pub fn read_candidates<R: Read + Drop>(alloc: Global, r: R) -> Result<Vec<Candid
     crate::candidates::read_candidates(alloc, r, None)
 }
 
-/// Returns the marks texts in a file with a keying of papers that have these columns, in the order of the papers.
+/// Returns the marks texts in a file with a keying of papers that have the given columns, in paper order.
 ///
 /// The header is `paper` followed by the columns in ascending order. A first field that names a batch and a clerk, such as `paper
 /// 12/4`, isn't accepted here, because neither is known. Everything else is as in [`read_keying`](crate::read_keying).
@@ -40,7 +40,7 @@ pub fn read_keying<R: Read + Drop>(
     read_file(alloc, r, None, &PlainFormat { columns })
 }
 
-/// The format of the file of a keying whose header names neither its batch nor its clerk.
+/// The format of the file with a keying whose header names neither its batch nor its clerk.
 #[derive(Drop)]
 struct PlainFormat {
     columns: Columns,

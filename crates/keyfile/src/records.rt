@@ -36,7 +36,7 @@ fn flaw_of(error: &Error) -> Flaw
     }
 }
 
-/// Returns the next record, which has this number, or None at the end of the file. Fails with `ReadFailed` if and only if the
+/// Returns the next record, which has the given number, or None at the end of the file. Fails with `ReadFailed` if and only if the
 /// file's last read failed.
 pub(crate) fn next_record<R: Read + LastRead + Drop>(
     alloc: Global,

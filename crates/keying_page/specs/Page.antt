@@ -1,4 +1,4 @@
--- The page on which a clerk keys. Its texts are the constants of this crate: the definitions state how these are put together.
+-- The page on which a clerk keys. Its texts are built from the constants of this crate; the definitions specify how these are put together.
 use Rattle.std.specs.Prelude.{List, ◌++◌, codes, ℕ}
 use Rattle.keying_page.specs.Policies.{policy_of}
 use Rattle.keying_page.specs.declared.markup.TheConstants.{BODY, HEAD, TAIL}
@@ -30,7 +30,7 @@ page_of its_style its_script =
     ++ (codes "<script>" ++ (its_script ++ (codes "</script>"
     ++ TAIL.now)))))))
 
--- the page; the text is the same for every clerk
+-- the page; its text is the same for every clerk
 abbrev pub page_text : List ℕ
 page_text = page_of style script
 

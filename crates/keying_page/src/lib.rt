@@ -1,11 +1,11 @@
 //! The page on which a clerk keys, using only the keyboard: markup, style and script in one text, with no external resources.
 //!
-//! [`page_text`] returns the page. It contains no data of an office, and is the same for every clerk: like any other client, it
-//! requests what it shows. [`policy_text`] returns the policy that limits what it can do in a browser. A server sends both in one
-//! response.
+//! [`page_text`] returns the page. It contains no office data, and is the same for every clerk: like any other client, it
+//! requests what it shows. [`policy_text`] returns the policy that limits what the page can do in a browser. A server sends both
+//! in one response.
 //!
-//! `specs/Page.antt` defines both from the same script and the same style, so the policy names those that are served. What the
-//! script does isn't specified: `tools/check script` runs it.
+//! `specs/Page.antt` defines both from the same script and the same style, so the policy names the script and the style that
+//! are served. What the script does isn't specified: `tools/check script` runs it.
 #![tactic(auto)]
 
 mod markup;

@@ -11,7 +11,7 @@ use sha2::{Digest, Sha256};
 use std::alloc::{AllocError, Global};
 
 #[tactic(auto, unfolding(crate::specs::Policies::hash_source))]
-/// Returns the source in a policy that allows a browser to use one text: its SHA-256, in base64.
+/// Returns the policy source that allows a browser to use one text: its SHA-256, in base64.
 fn hash_source(alloc: Global, text: &[u8]) -> Result<String, AllocError>
     ensures { IfOk result (λ source. string_bytes source ≡ hash_source text.now) }
 {

@@ -1,7 +1,7 @@
 //! The script of the page, as one text.
 //!
-//! A browser runs it as a classic script, so all parts share one scope. Each part but the last contains only declarations, and may
-//! use those of any other part. [`events`] is last, and starts the page.
+//! A browser runs it as a classic script, so all parts share one scope. Each part except the last contains only declarations, and
+//! may use those in any other part. [`events`] is last, and starts the page.
 
 ghost use Rattle.std.specs.Prelude.{◌≡◌, IfOk, string_bytes};
 ghost use Rattle.keying_page.specs.Page.{script};

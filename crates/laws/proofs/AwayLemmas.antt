@@ -18,20 +18,20 @@ use Rattle.register.proofs.MapLemmas.{all_but_number, both_equal, filter_put, fi
 
 -- ---- the keyings of a batch
 
--- the keyings of some clerks are the same if each clerk keyed the same
+-- two lists of keyings by the same clerks are equal if each clerk's keyings are equal
 keyed_alike : (f g : ℕ → List KeyedEntry) (cs : List ℕ) → ((c : ℕ) → f c ≡ g c) → filter is_keyed (map f cs) ≡ filter is_keyed (map g cs)
 keyed_alike f g [] same = refl
 keyed_alike f g (c ∷ cs) same =
     ap (λ (ks : List KeyedEntry). cond (is_keyed ks) (ks ∷ filter is_keyed (map f cs)) (filter is_keyed (map f cs))) (same c)
     ∙ ap (λ (others : List (List KeyedEntry)). cond (is_keyed (g c)) (g c ∷ others) others) (keyed_alike f g cs same)
 
--- papers belong to the batch from which they are keyed
+-- papers from a keying of a batch belong to that batch
 pub papers_of_batch : (batch round clerk paper : ℕ) (texts : List (List ℕ)) → list_all (λ (k : KeyedEntry). k.batch == batch) (papers_from batch round clerk paper texts) ≡ true
 unfolding papers_from
 papers_of_batch batch round clerk paper [] = refl
 papers_of_batch batch round clerk paper (marks ∷ others) = and_from _ _ (eq-eqb batch batch refl) (papers_of_batch batch round clerk (paper + 1) others)
 
--- an effect on a batch: a third clerk is assigned, papers are keyed, or a paper is judged
+-- an effect on the given batch: a third clerk is assigned, papers are keyed, or a paper is judged
 abbrev pub IsOfBatch : ℕ → EffectEntry → Type 0
 IsOfBatch n (third_set t) = t.batch ≡ n
 IsOfBatch n (papers_keyed papers) = list_all (λ (k : KeyedEntry). k.batch == n) papers ≡ true
@@ -68,12 +68,12 @@ file_elsewhere s effect n of b other = absurd of
 
 -- ---- the batches of a ward
 
--- a batch is a different one, or belongs to another ward
+-- a batch isn't the given one, or it belongs to another ward
 abbrev is_elsewhere : ℕ → ℕ → BatchEntry → Bool
 is_elsewhere n m x = not (n == x.number) || not (x.ward == m)
 
--- the piles of a ward's batches are unchanged if the pile of every batch is, except for one batch of another
--- ward
+-- if the pile of every batch but one is unchanged, and that one belongs to another ward, the piles of this
+-- ward's batches are unchanged
 piles_elsewhere : (s t : OfficeState) (n m : ℕ) (bs : List BatchEntry) → ((x : BatchEntry) → (n == x.number) ≡ false → pile_of t x ≡ pile_of s x) → list_all (is_elsewhere n m) bs ≡ true
     → map (pile_of t) (filter (λ (x : BatchEntry). x.ward == m) bs) ≡ map (pile_of s) (filter (λ (x : BatchEntry). x.ward == m) bs)
 piles_elsewhere s t n m [] same all = refl
@@ -91,7 +91,7 @@ piles_elsewhere s t n m (x ∷ bs) same all =
     go false away later = later
     go true away later = ap (λ (p : Pile). p ∷ map (pile_of t) (filter (λ (y : BatchEntry). y.ward == m) bs)) (same x (other (n == x.number) away)) ∙ ap (λ (ps : List Pile). pile_of s x ∷ ps) later
 
--- changing a batch of another ward leaves the batches of this ward unchanged
+-- changing a batch in another ward leaves the batches of this ward unchanged
 changed_elsewhere : (n m : ℕ) (change : BatchEntry → BatchEntry) → ((x : BatchEntry) → (change x).ward ≡ x.ward) → (bs : List BatchEntry) → list_all (is_elsewhere n m) bs ≡ true
     → filter (λ (x : BatchEntry). x.ward == m) (changed (batch_compared n) change bs) ≡ filter (λ (x : BatchEntry). x.ward == m) bs
 changed_elsewhere n m change ward [] all = refl
@@ -108,7 +108,7 @@ changed_elsewhere n m change ward (x ∷ bs) all =
         let moved : ((change x).ward == m) ≡ false = ap (λ (k : ℕ). k == m) (ward x) ∙ apart in
         rw (unsigned_tied n x.number ∙ same) (rw (moved, apart) later)
 
--- adding a batch of another ward leaves the piles of this ward unchanged
+-- adding a batch in another ward leaves the piles of this ward unchanged
 pub piles_added : (s : OfficeState) (b : BatchEntry) (m : ℕ) → (b.ward == m) ≡ false → piles_of (with_effect (batch_added b) s) m ≡ piles_of s m
 piles_added s b m apart = ap (map (pile_of s)) (filter_put batch_cmp (λ (y : BatchEntry). y.ward == m) b s.batches apart)
 
@@ -118,11 +118,12 @@ module _ (s : OfficeState) (n : ℕ) (b : BatchEntry) (m : ℕ) (is : IsState s)
       all_but_number (λ (x : BatchEntry). x.number) s.batches n b (is_given_out s) (is_elsewhere n m) is.rise.batches found (λ same. or_right (not (n == b.number)) _ (ap not apart))
       (λ x other out. rw other refl) (and_parts _ _ is.given_out).0
 
-  -- reopening a batch of another ward leaves the piles of this ward unchanged
+  -- reopening a batch in another ward leaves the piles of this ward unchanged
   pub piles_reopened : (round : ℕ) → piles_of (with_effect (batch_reopened n round) s) m ≡ piles_of s m
   piles_reopened round = ap (map (pile_of s)) (changed_elsewhere n m (in_round round) (λ y. refl) s.batches batches_elsewhere)
 
-  -- a third clerk, papers or a verdict for a batch of another ward leave the piles of this ward unchanged
+  -- assigning a third clerk to a batch in another ward, keying its papers or judging one of them leaves the
+  -- piles of this ward unchanged
   pub piles_kept : (effect : EffectEntry) → IsOfBatch n effect → piles_of (with_effect effect s) m ≡ piles_of s m
   piles_kept (third_set t) of =
       piles_elsewhere s (with_effect (third_set t) s) n m s.batches (λ x away. pile_kept s (with_effect (third_set t) s) x (file_elsewhere s (third_set t) n of x away)) batches_elsewhere

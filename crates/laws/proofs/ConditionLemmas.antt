@@ -21,7 +21,7 @@ pub absent : {X : Type 0} (o : Option X) (why : Reason) → objection (is_some o
 absent (Some x) why none = absurd (cc)
 absent None why none = refl
 
--- two phases with the same number are the same
+-- two phases with the same number are equal
 one_phase : (p q : Phase) → (phase_number p == phase_number q) ≡ true → p ≡ q
 one_phase Nominations Nominations same = refl
 one_phase Keying Keying same = refl
@@ -29,7 +29,7 @@ one_phase Sealed Sealed same = refl
 one_phase Declared Declared same = refl
 one_phase p q same = absurd (cc)
 
--- a ward exists and is in this phase
+-- a ward was found and is in the given phase
 pub record IsThere (phase : Phase) (found : Option WardEntry) : Type 0 where
   pub ward : WardEntry
   pub is : found ≡ Some ward
@@ -43,7 +43,7 @@ there phase (Some w) why none = record { ward = w; is = refl; phased = one_phase
     go true none = refl
     go false none = absurd (cc)
 
--- a batch exists, and its ward exists and is in this phase
+-- a batch exists, and its ward exists and is in the given phase
 pub record IsBatchIn (s : OfficeState) (phase : Phase) (n : ℕ) : Type 0 where
   pub batch : BatchEntry
   pub found : batch_at s n ≡ Some batch

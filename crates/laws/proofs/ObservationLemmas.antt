@@ -1,4 +1,4 @@
--- What a clerk sees, and the decisions on the clerk's requests, follow from what the clerk observed.
+-- What a clerk sees, and the decisions on the clerk's own requests, follow from what the clerk has observed.
 use Rattle.std.proofs.Common.{◌≡◌, ℕ, Bool, true, false, cond, not, ◌&&◌, ◌==◌, List, [], ◌∷◌, ◌++◌, map, filter, Option, Some, None, string_bytes, refl, sym, ap, subst, ◌∙◌}
 use Rattle.std.specs.Prelude.{⊤}
 use Rattle.std.specs.Ordering.{is_eq, is_lt}
@@ -30,7 +30,7 @@ use Rattle.register.proofs.SeenLemmas.{paper_seen, ruling_on_seen, stands_alone,
 use Rattle.laws.specs.Blindness.{AlikeOfficesAnswerAlike, ClerksAreBlind, DecidedByObserved, Observation, IsUnobserved, OwnAreObserved, SeenIsAlike, SeenIsObserved, asked, decided_alone}
 use Rattle.laws.specs.Blindness.{observed_at, observed_by, observed_of, is_shown, is_shown_command, made, own_rulings, ruling_on, seen_after}
 
--- ---- what is seen of a change
+-- ---- how a change looks to a clerk
 
 -- filtering twice is the same as filtering once
 filter_again : {X : Type 0} (p : X → Bool) (xs : List X) → filter p (filter p xs) ≡ filter p xs
@@ -41,12 +41,12 @@ filter_again {X} p (x ∷ xs) = go (p x) refl (filter_again p xs)
     go true passes later = rw passes (ap (λ (ys : List X). x ∷ ys) later)
     go false passes later = later
 
--- viewing the wards as a clerk sees them, twice, is the same as doing it once
+-- reducing wards to what clerks see twice is the same as doing it once
 seen_wards : (ws : List WardEntry) → map (at_stage 0) (map (at_stage 0) ws) ≡ map (at_stage 0) ws
 seen_wards [] = refl
 seen_wards (w ∷ ws) = ap (λ (xs : List WardEntry). at_stage 0 w ∷ xs) (seen_wards ws)
 
--- the same with another ward
+-- adding a ward to wards reduced to what clerks see, and reducing the result, is the same as adding it before reducing
 seen_put : (w : WardEntry) (ws : List WardEntry) → map (at_stage 0) (put ward_cmp w (map (at_stage 0) ws)) ≡ map (at_stage 0) (put ward_cmp w ws)
 seen_put w [] = refl
 seen_put w (x ∷ ws) = go (is_lt (ward_cmp w x)) (seen_put w ws)
@@ -57,7 +57,7 @@ seen_put w (x ∷ ws) = go (is_lt (ward_cmp w x)) (seen_put w ws)
     go true later = ap (λ (xs : List WardEntry). at_stage 0 w ∷ at_stage 0 x ∷ xs) (seen_wards ws)
     go false later = ap (λ (xs : List WardEntry). at_stage 0 x ∷ xs) later
 
--- the same with a ward moved to another phase
+-- moving a ward to another phase among such reduced wards, and reducing the result, is the same as moving it before reducing
 seen_moved : (n : ℕ) (phase : Phase) (ws : List WardEntry)
     → map (at_stage 0) (changed (ward_compared n) (in_phase phase) (map (at_stage 0) ws)) ≡ map (at_stage 0) (changed (ward_compared n) (in_phase phase) ws)
 seen_moved n phase [] = refl
@@ -69,7 +69,7 @@ seen_moved n phase (w ∷ ws) = go (is_eq (ward_compared n w)) (seen_moved n pha
     go true later = ap (λ (xs : List WardEntry). at_stage 0 (in_phase phase w) ∷ xs) later
     go false later = ap (λ (xs : List WardEntry). at_stage 0 w ∷ xs) later
 
--- the same with another number of stages done, which clerks don't see
+-- setting the number of completed stages doesn't affect what clerks see of the wards
 seen_staged : (n done : ℕ) (ws : List WardEntry) → map (at_stage 0) (changed (ward_compared n) (at_stage done) ws) ≡ map (at_stage 0) ws
 seen_staged n done [] = refl
 seen_staged n done (w ∷ ws) = go (is_eq (ward_compared n w)) (seen_staged n done ws)
@@ -79,13 +79,13 @@ seen_staged n done (w ∷ ws) = go (is_eq (ward_compared n w)) (seen_staged n do
     go true later = ap (λ (xs : List WardEntry). at_stage 0 w ∷ xs) later
     go false later = ap (λ (xs : List WardEntry). at_stage 0 w ∷ xs) later
 
--- an effect of the office, which never keys papers
+-- an effect that keys no papers, as is the case for every office command
 abbrev IsNoKeying : EffectEntry → Type 0
 IsNoKeying (papers_keyed papers) = ⊥
 IsNoKeying effect = ⊤
 
 module _ (clerk : ℕ) (s : OfficeState) where
-  -- a clerk sees the same keyings and receipts of their own
+  -- if a clerk's own keyings and receipts are unchanged, the clerk still sees the same ones
   own_again : (wards : List WardEntry) (t : OfficeState) → t.keyings ≡ s.keyings → t.receipts ≡ s.receipts → wards ≡ map (at_stage 0) t.wards
       → record (seen_by clerk t) {
         wards = wards;
@@ -105,8 +105,8 @@ module _ (clerk : ℕ) (s : OfficeState) where
       (filter_again (λ (r : ReceiptEntry). r.actor == clerk) s.receipts ∙ ap (filter (λ (r : ReceiptEntry). r.actor == clerk)) (sym receipts))
       ∙ ap (λ (ws : List WardEntry). record (seen_by clerk t) { wards = ws }) same
 
-  -- if an effect of the office is shown, a clerk sees the result of applying it to what they saw; after any other effect, a clerk sees the
-  -- same as before
+  -- after an effect of the office that is shown, a clerk sees the result of applying it to what they saw before; after any other effect, a
+  -- clerk sees the same as before
   shown : (effect : EffectEntry) → is_shown effect ≡ true → seen_by clerk (with_effect effect (seen_by clerk s)) ≡ seen_by clerk (with_effect effect s)
   shown (ward_added w) is = own_again _ (with_effect (ward_added w) s) refl refl (seen_put w s.wards)
   shown (ward_moved ward phase) is = own_again _ (with_effect (ward_moved ward phase) s) refl refl (seen_moved ward phase s.wards)
@@ -130,9 +130,9 @@ module _ (clerk : ℕ) (s : OfficeState) where
       ap (λ (rs : List ReceiptEntry). record (seen_by clerk (with_effect change.effect s)) { receipts = rs })
       (filter_put receipt_cmp (λ (r : ReceiptEntry). r.actor == clerk) change.receipt (with_effect change.effect s).receipts other)
 
--- ---- a request of the office
+-- ---- a request from the office
 
--- the ruling on it: the change, if there is one, has the receipt of an actor other than the clerk, and keys no papers
+-- the ruling on it: its change, if any, has a receipt for an actor other than the clerk, and keys no papers
 abbrev IsByOffice : ℕ → Ruling → Type 0
 IsByOffice clerk (accepts change reply) = ((change.receipt.actor == clerk) ≡ false) × IsNoKeying change.effect
 IsByOffice clerk (keeps reply) = ⊤
@@ -174,7 +174,7 @@ module _ (clerk actor : ℕ) (id : List ℕ) (other : (actor == clerk) ≡ false
       go true (Some r) = elim (bytes_eq r.subject (subject_of command)) as (λ b. IsByOffice clerk (cond b (keeps r.reply) (refuses IdUsed))) [ true ↦ tt | false ↦ tt ]
       go true None = judged_so command (part_of s actor command)
 
--- a clerk observes nothing of a command whose change clerks don't see
+-- a clerk observes nothing of a command if clerks don't see its change
 module _ (actor : ℕ) (id : List ℕ) (office : is_office actor ≡ true) where
   judged_unobserved : (s : OfficeState) (c : Command) (part : CommandInputEntries) → is_shown_command c ≡ false → observed_of (judged actor id c part (first_reason (objections actor c part))) ≡ []
   judged_unobserved s (Keying c) part unshown = rw (no_clerk actor office) refl
@@ -204,7 +204,7 @@ module _ (actor : ℕ) (id : List ℕ) (office : is_office actor ≡ true) where
       go true (Some r) = elim (bytes_eq r.subject (subject_of c)) as (λ b. observed_of (cond b (keeps r.reply) (refuses IdUsed)) ≡ []) [ true ↦ refl | false ↦ refl ]
       go true None = judged_unobserved s c (part_of s actor c) unshown
 
--- so a request is unobserved if it is neither the clerk's own nor the office's with a command whose change clerks see
+-- so a request is unobserved if it is neither the clerk's own nor an office request whose change clerks see
 pub unobserved : (clerk : ℕ) (r : Request) → (r.actor ≡ clerk → ⊥) → (is_office r.actor && is_shown_command r.command) ≡ false → IsUnobserved clerk r
 unobserved clerk r other none s = rw (ne_eqb r.actor clerk other) (go (is_office r.actor) refl (is_shown_command r.command) refl none)
   where
@@ -214,7 +214,7 @@ unobserved clerk r other none s = rw (ne_eqb r.actor clerk other) (go (is_office
     go true office false shown none = ruling_unobserved r.actor (string_bytes r.id) office s r.command shown
 
 module _ (clerk : ℕ) where
-  -- what a clerk sees after a ruling follows from what they saw before
+  -- what a clerk sees after a ruling is determined by what they saw before
   made_seen : (s : OfficeState) (ruling : Ruling) → IsByOffice clerk ruling → seen_by clerk (state_after s (outcome_at s ruling)) ≡ seen_after clerk (seen_by clerk s) (observed_of ruling)
   made_seen s (accepts change reply) by = receipt_unseen clerk s change by.0 ∙ go (is_shown change.effect) refl
     where
@@ -224,7 +224,7 @@ module _ (clerk : ℕ) where
   made_seen s (keeps reply) by = refl
   made_seen s (refuses why) by = refl
 
-  -- the ruling decides none of the clerk's own requests
+  -- the ruling isn't on any of the clerk's own requests
   none_decided : (seen : OfficeState) (ruling : Ruling) (observed : List Observation)
       → decided_alone clerk seen (observed_of ruling ++ observed) ≡ decided_alone clerk (seen_after clerk seen (observed_of ruling)) observed
   none_decided seen (accepts change reply) observed =
@@ -233,7 +233,7 @@ module _ (clerk : ℕ) where
   none_decided seen (keeps reply) observed = refl
   none_decided seen (refuses why) observed = refl
 
-  -- making more observations
+  -- adding further observations
   seen_more : (seen : OfficeState) (before observed : List Observation) → seen_after clerk seen (before ++ observed) ≡ seen_after clerk (seen_after clerk seen before) observed
   seen_more seen [] observed = refl
   seen_more seen (asked r ∷ before) observed = seen_more (after_one seen r) before observed
@@ -260,7 +260,7 @@ module _ (clerk : ℕ) where
     other_seen : (r.actor == clerk) ≡ false → is_office r.actor ≡ false → seen_by clerk (after_one s r) ≡ seen_by clerk s
     other_seen other clerks = unseen_by s r.actor (string_bytes r.id) clerks r.command clerk other
 
-    -- after the request, the clerk sees what follows from what they observed of it
+    -- what the clerk sees after the request is determined by what they observed of it
     one_seen : seen_by clerk (after_one s r) ≡ seen_after clerk (seen_by clerk s) (observed_at clerk s r)
     one_seen = go (r.actor == clerk) refl (is_office r.actor) refl
       where
@@ -270,7 +270,7 @@ module _ (clerk : ℕ) where
         go false other true office = office_seen other office
         go false other false clerks = other_seen other clerks
 
-    -- the rulings on the clerk's own request, and on those after it, follow from that as well
+    -- the rulings on the clerk's own request, and on later ones, are also determined by what they observed
     one_decided : (observed : List Observation) (later : List Ruling) → later ≡ decided_alone clerk (seen_by clerk (after_one s r)) observed
         → cond (r.actor == clerk) (ruling_on s r ∷ later) later ≡ decided_alone clerk (seen_by clerk s) (observed_at clerk s r ++ observed)
     one_decided observed later same = go (r.actor == clerk) refl (is_office r.actor) refl
@@ -284,7 +284,7 @@ module _ (clerk : ℕ) where
             same ∙ ap (λ (v : OfficeState). decided_alone clerk v observed) (office_seen other office) ∙ sym (none_decided (seen_by clerk s) (ruling_on s r) observed)
         go false other false clerks = same ∙ ap (λ (v : OfficeState). decided_alone clerk v observed) (other_seen other clerks)
 
--- ---- any requests
+-- ---- any list of requests
 
 pub seen_is_observed : SeenIsObserved
 seen_is_observed clerk s [] good is = refl

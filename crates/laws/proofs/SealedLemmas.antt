@@ -53,9 +53,9 @@ judged_batch : (batch paper : ℕ) (verdict : Verdict) → (judged_as batch pape
 judged_batch batch paper (Accept marks) = refl
 judged_batch batch paper (Reject code) = refl
 
--- ---- one ward in two states
+-- ---- the same ward in two states
 
--- the ballots of a ward are determined by its candidates and the piles of its batches
+-- the ballots of a ward are determined by its candidates and by the piles of its batches
 ballots_same : (s t : OfficeState) (w v : WardEntry) → v.number ≡ w.number → candidates_of t w.number ≡ candidates_of s w.number → piles_of t w.number ≡ piles_of s w.number
     → (election_of t v).ballots ≡ (election_of s w).ballots
 ballots_same s t w v number candidates piles =
@@ -74,7 +74,7 @@ election_same s t w candidates piles lots =
     ∙ ap (λ (ps : List Pile). election_with w (candidates_of s w.number) ps (lots_of t w.number)) piles
     ∙ ap (election_with w (candidates_of s w.number) (piles_of s w.number)) lots
 
--- a ward stays sealed if nothing about its election changes
+-- a ward stays sealed if its election doesn't change
 same_stays : (s t : OfficeState) (w : WardEntry) → is_counted w.phase ≡ true → ward_at t w.number ≡ Some w → candidates_of t w.number ≡ candidates_of s w.number
     → piles_of t w.number ≡ piles_of s w.number → lots_of t w.number ≡ lots_of s w.number → StaysSealed s t w
 same_stays s t w sealed found candidates piles lots =
@@ -94,8 +94,8 @@ same_stays s t w sealed found candidates piles lots =
       declared = λ was. same;
     }
 
--- a ward that stays sealed from one state to a second, and from the second to a third, stays sealed from the
--- first to the third
+-- if a ward stays sealed from a first state to a second, and from the second to a third, it stays sealed from
+-- the first to the third
 then_stays : (s t u : OfficeState) (w : WardEntry) (first : StaysSealed s t w) → StaysSealed t u first.ward → StaysSealed s u w
 then_stays s t u w first next = record {
   ward = next.ward;
@@ -119,7 +119,7 @@ then_stays s t u w first next = record {
   declared = λ was. next.declared (ap (λ (e : ElectionEntry). is_declared e.ward.phase) (first.declared was) ∙ was) ∙ first.declared was;
 }
 
--- ---- one command without objections
+-- ---- a single command to which there is no objection
 
 module _ (s : OfficeState) (w : WardEntry) (is : IsState s) (found : ward_at s w.number ≡ Some w) (sealed : is_counted w.phase ≡ true) where
   itself : StaysSealed s s w
@@ -132,7 +132,7 @@ module _ (s : OfficeState) (w : WardEntry) (is : IsState s) (found : ward_at s w
       let v : its.ward ≡ w = cc in
       both_ways (is_counted w.phase) (ap (λ (x : WardEntry). is_counted x.phase) (sym v) ∙ ap is_counted its.phased ∙ before) sealed)
 
-  -- the ward that is found after some ward is changed
+  -- the ward that is found after the ward with the given number is changed
   changed_there : (k : ℕ) (change : WardEntry → WardEntry) → ((x : WardEntry) → (change x).number ≡ x.number)
       → entry_at (ward_compared w.number) (changed (ward_compared k) change s.wards) ≡ Some (cond (k == w.number) (change w) w)
   changed_there k change kept =
@@ -144,7 +144,7 @@ module _ (s : OfficeState) (w : WardEntry) (is : IsState s) (found : ward_at s w
       → entry_at (ward_compared w.number) (changed (ward_compared k) change s.wards) ≡ Some w
   changed_away k change kept other = changed_there k change kept ∙ ap (λ (b : Bool). Some (cond b (change w) w)) other
 
-  -- a batch whose ward is in keying belongs to a different ward
+  -- a batch whose ward is in keying doesn't belong to the sealed ward
   batch_away : (n : ℕ) (in_keying : IsBatchIn s Keying n) → (in_keying.batch.ward == w.number) ≡ false
   batch_away n in_keying = another Keying in_keying.batch.ward refl in_keying.its
 
@@ -162,7 +162,7 @@ module _ (s : OfficeState) (w : WardEntry) (is : IsState s) (found : ward_at s w
 
   -- ---- the sealed ward's count
 
-  -- the ward that is found in a phase is this ward
+  -- the ward with this number, found in the given phase, is the sealed ward
   own_phase : (phase : Phase) (k : ℕ) → k ≡ w.number → IsThere phase (ward_at s k) → w.phase ≡ phase
   own_phase phase k same its =
       let one : Some its.ward ≡ Some w = sym its.is ∙ ap (ward_at s) same ∙ found in
@@ -172,7 +172,7 @@ module _ (s : OfficeState) (w : WardEntry) (is : IsState s) (found : ward_at s w
   not_declared : w.phase ≡ Sealed → {X : Type 0} → is_declared w.phase ≡ true → X
   not_declared phased was = absurd (both_ways (is_declared w.phase) (ap is_declared phased) was)
 
-  -- another stage follows those that were done
+  -- the new stage follows the stages already done
   stage_more : (next : OfficeState) (v : WardEntry) (k : ℕ) → k ≡ w.number → ward_at next w.number ≡ Some v → HasStageMore s next k
       → (more : History) × (stages_of (election_of next v) ≡ more ++ stages_of (election_of s w))
   stage_more next v k same now more =
@@ -340,7 +340,7 @@ module _ (s : OfficeState) (w : WardEntry) (is : IsState s) (found : ward_at s w
     judged_stays c (Some why) told advanced = itself
     judged_stays c None told advanced = accepted_stays c told advanced
 
-    -- any request leaves the ward sealed
+    -- every request leaves the ward sealed
     step_keeps : (c : Command) → IsAdvanced s c (step s actor id c) → StaysSealed s (state_after s (step s actor id c)) w
     unfolding step decided
     step_keeps c = go (is_id id) (receipt_at s actor id)
@@ -352,7 +352,7 @@ module _ (s : OfficeState) (w : WardEntry) (is : IsState s) (found : ward_at s w
             elim (bytes_eq r.subject (subject_of c)) as (λ b. StaysSealed s (state_after s (outcome_at s (cond b (keeps r.reply) (refuses IdUsed)))) w) [ true ↦ itself | false ↦ itself ]
         go true None advanced = judged_stays c (first_reason (objections actor c (part_of s actor c))) refl advanced
 
--- ---- any requests
+-- ---- any list of requests
 
 pub wards_stay : SealedWardsStay
 wards_stay s w [] in_it = same_stays s s w in_it.sealed in_it.there refl refl refl

@@ -1,3 +1,3 @@
--- What clerks observe of requests, and what doesn't change once a ward is sealed.
+-- What clerks observe of requests, and what never changes once a ward is sealed.
 pub mod Blindness
 pub mod Sealed

@@ -8,18 +8,18 @@ use register::ranges::is_office;
 use register::{Command, CountCommand, Request};
 
 /// The law of blind keying, for lists of requests. A clerk *observes* their own requests, and those changes made by the
-/// office's requests that clerks see: changes to wards, phases, candidates, batches, rounds and third clerks. A clerk
+/// office's requests that clerks can see: changes to wards, phases, candidates, batches, rounds and third clerks. A clerk
 /// observes nothing of another clerk's requests.
 ///
-/// What a clerk sees after any requests, and the decisions on their own requests, follow from what they saw at first and have
-/// observed since. So consider two offices that look the same to a clerk, and any list of requests to each. If the clerk
-/// observes the same of both lists, their requests get the same replies in both offices, and the two offices still look the
-/// same to them in the end, whatever other clerks keyed.
+/// What a clerk sees after any list of requests, and the decisions on their own requests, follow from what they saw at first
+/// and what they have observed since. So consider two offices that look identical to a clerk, and any list of requests to
+/// each. If the clerk makes the same observations in both, their requests get the same replies in both offices, and the two
+/// offices still look identical to them in the end, no matter what other clerks keyed.
 ///
 /// To a teller, this means: if your colleagues had keyed anything else, and the office had still made the same changes, you
-/// would have read exactly the same, to the letter. The law doesn't say that the office's changes tell you nothing: if a
-/// batch is reopened, you know that its keyings differed. Nor does it cover faults, response times, what is published about
-/// a sealed ward, or requests that are rejected before they reach the office.
+/// would have read exactly the same text, character for character. The law doesn't say that the office's changes tell you
+/// nothing: if a batch is reopened, you know that its keyings differed. Nor does it cover faults, response times, what is
+/// published about a sealed ward, or requests that are rejected before they reach the office.
 pub fn clerks_are_blind()
     ensures itself { SeenIsAlike }
     ensures alike { AlikeOfficesAnswerAlike }
@@ -29,7 +29,7 @@ pub fn clerks_are_blind()
     ensures blind { ClerksAreBlind }
 {}
 
-/// Returns whether clerks may see the change that a command of the office makes.
+/// Returns whether clerks may see the change made by an office command.
 fn is_shown(command: &Command) -> bool
     ensures { result ≡ is_shown_command command.now }
 {
@@ -46,8 +46,8 @@ fn is_shown(command: &Command) -> bool
     }
 }
 
-/// Returns whether a clerk may observe a request: it is the clerk's own, or it is the office's and clerks may see the change
-/// that its command makes. Of any other request the clerk observes nothing, in any state.
+/// Returns whether a clerk may observe a request: it is the clerk's own, or it is from the office and clerks may see the
+/// change that its command makes. A clerk observes nothing of any other request, in any state.
 pub fn may_observe(clerk: u32, request: &Request) -> bool
     ensures is { result ≡ may_observe clerk request.now }
     ensures unobserved { result ≡ false → IsUnobserved clerk request.now }

@@ -1,6 +1,6 @@
-//! Laws for lists of requests: clerks are blind to one another, and a sealed ward doesn't change.
+//! Laws about lists of requests: clerks are blind to one another's work, and a sealed ward doesn't change.
 //!
-//! `register` defines what one request does to the state. These laws state what follows for entire lists, no matter who
+//! `register` defines how a single request changes the state. These laws state what follows for entire lists, no matter who
 //! sends the requests. `server` relies on the first law for everything sent over HTTP. Two functions compute what the laws are
 //! about: `may_observe`, whether a clerk may observe a request, and `is_past_keying`, whether a ward's papers are final.
 #![tactic(auto)]

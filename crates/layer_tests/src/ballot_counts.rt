@@ -1,6 +1,6 @@
-//! Ballots counted by a direct call: each text, a lot that is needed, lots that are added, and ballots that can't be counted.
-//! (The figures are those of `tools/try recount`, which counts in another language; the rest of the output is played in
-//! examples/checking.sh.)
+//! Ballots counted by a direct call: each text, a lot that is needed, lots that are added, and ballots that can't be
+//! counted. (The figures are those of `tools/try recount`, which counts in a different language; the rest of the output
+//! is covered by examples/checking.sh.)
 
 use crate::checker_texts::{BALLOTS, DECLARATION, SHEET};
 use crate::sheet_outputs::is_text;
@@ -37,7 +37,7 @@ Stage 1: first preferences
 /// The line about the lot that the count waits for.
 pub(crate) const TIED_LINE: &str = "lot needed at stage 2 among 2 Bob, 3 Cy\n";
 
-/// The sheet if the lot names the third candidate.
+/// The sheet if the lot falls on the third candidate.
 const DRAWN_SHEET: &str = "Ward 1 Harbour
 Seats 1, valid 4, quota 3.00000
 Rejected 1: 0, 2: 0, 3: 0, 4: 0, 5: 0
@@ -76,7 +76,7 @@ const DRAWN_BALLOTS: &str = r#"3 1
 # Lot at stage 2: 3
 "#;
 
-/// The table of a ward whose count needs no lot.
+/// The table for a ward whose count needs no lot.
 const TABLE: &str =
     r#""candidate","name","Stage 1: first preferences","Stage 1 gained","Stage 1 lost","Stage 1 standing","Stage 2: surplus of 1","Stage 2 gained","Stage 2 lost","Stage 2 standing","Stage 3: exclusion of 2, last vacancies","Stage 3 gained","Stage 3 lost","Stage 3 standing"
 "1","Ann","6.00000","6.00000","0.00000","elected","4.00000","0.00000","2.00000","elected","4.00000","0.00000","0.00000","elected"
@@ -89,7 +89,8 @@ const TABLE: &str =
 /// Two candidates for three seats, and no papers.
 const UNCONTESTED: &str = "2 3\n0\n\"Ann\"\n\"Bob\"\n\"Harbour\"\n";
 
-/// Ballots, lots that are added, and a kind of text; then the expected text, and the line about a lot that is needed.
+/// Ballots, the lots added to them, and a kind of text; then the expected text, and the line about a lot that is
+/// needed.
 const COUNTED: [(&str, &[(u8, u8)], CountText, &str, &str); 10] = [
     (BALLOTS, &[], CountText::Sheet, SHEET, ""),
     (BALLOTS, &[], CountText::Declaration, DECLARATION, ""),
@@ -109,7 +110,7 @@ const COUNTED: [(&str, &[(u8, u8)], CountText, &str, &str); 10] = [
     ),
 ];
 
-/// Ballots, lots that are added, and why they can't be counted.
+/// Ballots, the lots added to them, and why they can't be counted.
 const NOT_COUNTED: [(&str, &[(u8, u8)], &str); 6] = [
     ("3 0\n", &[], "line 1 of the ballots: no seats"),
     (
@@ -144,7 +145,7 @@ fn counted(
     }
 }
 
-/// Asserts the text that is printed for these ballots, and the line about a lot that is needed.
+/// Checks the text printed for the given ballots, and the line about a lot that is needed.
 fn counts(
     rt: &(impl Abort + AllocGlobal),
     (ballots, lots, text, wanted, line): &(&str, &[(u8, u8)], CountText, &str, &str),
@@ -177,7 +178,7 @@ fn problem_of(alloc: Global, ballots: &str, lots: &[(u8, u8)]) -> Result<CountPr
     }
 }
 
-/// Asserts that ballots can't be counted, for this reason.
+/// Checks that the given ballots can't be counted, and why.
 fn refuses(
     rt: &(impl Abort + AllocGlobal),
     (ballots, lots, wanted): &(&str, &[(u8, u8)], &str),
@@ -188,7 +189,7 @@ fn refuses(
     Ok(())
 }
 
-/// Asserts that the page of these ballots has its title, and whether it says that the result is declared.
+/// Checks that the page of the given ballots has its title, and whether it says that the result is declared.
 fn shows_page(rt: &(impl Abort + AllocGlobal), ballots: &str, declared: bool) -> Result<(), Fail> {
     let text = CountText::Page("A <title>");
     let page = counted(rt.alloc(), ballots, &[], &text)?;
@@ -214,7 +215,7 @@ const RECORDS: &str = "\u{feff}count,\"Ann \"\"A\"\", jr.\",Bob,Cy\r
 2,1,1,2\r
 ";
 
-/// The ballots that result from these records.
+/// The ballots that result from `RECORDS`.
 const RECORDED: &str = r#"3 2
 4 1 2 0
 2 1 3 0
@@ -229,7 +230,7 @@ const RECORDED: &str = r#"3 2
 # Rejected 1: 1, 2: 2, 3: 0, 4: 0, 5: 0
 "#;
 
-/// Records that can't be read, and the first line at fault.
+/// Records that can't be read, and the first faulty line of each.
 const NOT_RECORDS: [(&str, &str); 11] = [
     (
         "",
@@ -274,8 +275,8 @@ const NOT_RECORDS: [(&str, &str); 11] = [
 /// The candidates of that ward, ordered by number.
 const CANDIDATES: [&str; 3] = ["Ann \"A\", jr.", "Bob", "Cy"];
 
-/// The same records with a column per rank, and candidates by number and by name. A paper that gives the same rank to several
-/// candidates can't be written this way: two papers without a first preference take the place of those.
+/// The same records with one column per rank, and candidates by number and by name. A paper that gives the same rank to
+/// several candidates can't be written this way; two papers without a first preference replace those.
 const RANKED: &str = "count,rank1,Rank 2,rank 3
 4,1,Bob,
 2,\"Ann \"\"A\"\", jr.\",3,
@@ -285,7 +286,7 @@ const RANKED: &str = "count,rank1,Rank 2,rank 3
 2,,,
 ";
 
-/// The ballots that result from these records.
+/// The ballots that result from `RANKED`.
 const RANKED_BALLOTS: &str = r#"3 2
 4 1 2 0
 2 1 3 0
@@ -300,7 +301,7 @@ const RANKED_BALLOTS: &str = r#"3 2
 # Rejected 1: 3, 2: 0, 3: 0, 4: 0, 5: 0
 "#;
 
-/// Records of these candidates that can't be read, and the first line at fault.
+/// Records for these candidates that can't be read, and the first faulty line of each.
 const NOT_RANKED: [(&str, &str); 8] = [
     (
         "rank1,rank3\n",
@@ -333,7 +334,7 @@ const NOT_RANKED: [(&str, &str); 8] = [
     ),
 ];
 
-/// Counts a ward's records, and returns the outcome in words.
+/// Counts a ward's records, and returns the result in words.
 fn recorded(
     alloc: Global,
     candidates: &[&str],
@@ -358,7 +359,7 @@ fn recorded(
     }
 }
 
-/// Asserts that these candidates' records are counted as these ballots.
+/// Checks that the given candidates' records are counted as the given ballots.
 fn counts_as(
     rt: &(impl Abort + AllocGlobal),
     candidates: &[&str],
@@ -373,7 +374,7 @@ fn counts_as(
     Ok(())
 }
 
-/// Asserts that records are counted as the ballots that result from them.
+/// Checks that records are counted in the same way as the ballots made from them.
 fn counts_records(rt: &(impl Abort + AllocGlobal)) -> Result<(), Fail> {
     counts_as(rt, &[], RECORDS, RECORDED)?;
     counts_as(rt, &CANDIDATES, RANKED, RANKED_BALLOTS)?;

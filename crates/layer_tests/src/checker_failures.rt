@@ -1,5 +1,5 @@
-//! What the checker prints if files can't be read, allocations fail, or outputs fail. (Its other output is played
-//! in examples/checking.sh and examples/transcripts/checks.txt.)
+//! What the checker prints if files can't be read, allocations fail, or outputs fail. (Its other output is covered by
+//! examples/checking.sh and examples/transcripts/checks.txt.)
 
 ghost use Rattle.std.specs.Prelude.{◌-◌, ◌^◌, ◌<◌};
 
@@ -12,11 +12,11 @@ use std::process::Abort;
 use std::test::Fail;
 use streams::{Counted, Sink};
 
-/// Its output for the sheet.
+/// The checker's output for the sheet.
 const IS_SHEET: &str =
     "the text is the stage sheet that these ballots, rejected papers and lots give\n";
 
-/// Three files that can be read; all others can't.
+/// Three files that can be read; no others can.
 #[derive(Clone, Copy)]
 struct MemoryFiles<'a> {
     alloc: Global,
@@ -48,7 +48,7 @@ impl InputFiles for MemoryFiles<'_> {
     }
 }
 
-/// Returns the words of a text, which are separated by spaces.
+/// Returns the words of a text, separated by spaces.
 fn words_of(alloc: Global, words: &str) -> Result<Vec<String>, AllocError> {
     let mut all = Vec::new(alloc);
     for word in words.split_whitespace() {
@@ -57,7 +57,7 @@ fn words_of(alloc: Global, words: &str) -> Result<Vec<String>, AllocError> {
     Ok(all)
 }
 
-/// Runs the checker with these words, in a folder with the text and the ballots, and returns its status.
+/// Runs the checker with the given words, in a folder with the text and the ballots, and returns its status.
 fn asked<O: Sink, E: Sink>(
     alloc: Global,
     words: &Result<Vec<String>, ArgumentsFault>,
@@ -76,7 +76,7 @@ fn asked<O: Sink, E: Sink>(
     run(alloc, words, &folder, out, err)
 }
 
-/// Runs the checker with these words, and compares its output, its error output and its status.
+/// Runs the checker with the given words, and compares its output, error output and status with those expected.
 fn tells(
     rt: &(impl Abort + AllocGlobal),
     words: &Result<Vec<String>, ArgumentsFault>,
@@ -90,21 +90,21 @@ fn tells(
     assert!(rt; status == told.2);
 }
 
-/// Does the same with words that are valid UTF-8.
+/// Does the same as `tells` with words that are valid UTF-8.
 fn asks(rt: &(impl Abort + AllocGlobal), words: &str, told: &(&str, &str, u8)) -> Result<(), Fail> {
     let words = Ok(words_of(rt.alloc(), words)?);
     tells(rt, &words, told);
     Ok(())
 }
 
-/// Its output if an allocation fails.
+/// The checker's output if an allocation fails.
 const MEMORY: (&str, &str, u8) = ("", "error: memory is wanting\n", 3);
 
-/// Its output if a file can't be read.
+/// The checker's output if a file can't be read.
 const UNREAD: (&str, &str, u8) = ("", "error: no?ne can't be read: there is none\n", 3);
 
-/// Its error output for words that lack the ballots, the value of an option, or a valid lot, and for a lot that
-/// isn't among the tied.
+/// The checker's error output for words that lack the ballots, the value of an option, or a valid lot, and for a lot
+/// that isn't among the tied candidates.
 const NO_BALLOTS: &str = "error: give the path of the ballots; --help says more\n";
 
 const NO_VALUE: &str = "error: the last option needs a value; --help says more\n";
@@ -134,7 +134,7 @@ const ASKED: [(&str, (&str, &str, u8)); 14] = [
     ("--count tied --lot 2:1", ("", NOT_TIED, 2)),
 ];
 
-/// Runs the checker with these words and with outputs that accept as many bytes as their buffers hold, and returns
+/// Runs the checker with the given words and with outputs that accept as many bytes as their buffers hold, and returns
 /// its status.
 fn asked_over(
     alloc: Global,
@@ -148,7 +148,7 @@ fn asked_over(
     Ok(asked(alloc, &words, text, &mut to_out, &mut to_err))
 }
 
-/// Runs the checker with outputs that have room for just the expected bytes, and compares those.
+/// Runs the checker with outputs that have room for exactly the expected bytes, and compares what they accepted.
 fn breaks(
     rt: &(impl Abort + AllocGlobal),
     (words, text, out_told, err_told): &(&str, &str, &str, &str),
@@ -162,7 +162,7 @@ fn breaks(
     Ok(())
 }
 
-/// Words, a text, and what is accepted by an output and an error output that have no room for more.
+/// Words, a text, and the bytes accepted by an output and an error output that have no room for more.
 const BROKEN: [(&str, &str, &str, &str); 5] = [
     (
         "ballots text",
@@ -176,7 +176,7 @@ const BROKEN: [(&str, &str, &str, &str); 5] = [
     ("--count tied", "", TIED_SHEET, "lot needed"),
 ];
 
-/// Asserts the output if the checker's words can't be read.
+/// Checks the output if the checker's words can't be read.
 fn tells_no_words(rt: &(impl Abort + AllocGlobal)) {
     let not_text = ("", "error: a word is not UTF-8\n", 2);
     tells(rt, &Err(ArgumentsFault::NotUtf8), &not_text);

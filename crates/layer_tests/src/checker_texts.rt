@@ -1,5 +1,5 @@
-//! Texts checked against ballots by a direct call: the report on each, and the texts of an uncontested ward. (The
-//! rest of the output on ballots and texts is played in examples/transcripts/checks.txt.)
+//! Texts checked against ballots by a direct call: the report on each, and the texts of an uncontested ward. (The rest
+//! of the output on ballots and texts is covered by examples/transcripts/checks.txt.)
 
 use crate::sheet_outputs::{candidates_of, is_text};
 use checker::{Checked, Problem, check};
@@ -69,7 +69,7 @@ fn told(alloc: Global, ballots: &[u8], text: &[u8]) -> Result<String, AllocError
     words_of(alloc, &check(alloc, ballots, text))
 }
 
-/// Asserts the report on a text and ballots.
+/// Checks the report on a text and ballots.
 fn tells(
     rt: &(impl Abort + AllocGlobal),
     ballots: &str,
@@ -81,7 +81,7 @@ fn tells(
     Ok(())
 }
 
-/// The reports on texts and the ballots.
+/// Texts, and the report on each with the ballots.
 const CHECKS: [(&str, &str); 4] = [
     (SHEET, "the sheet"),
     (DECLARATION, "the declaration"),
@@ -100,7 +100,7 @@ fn ballots_of(alloc: Global, ward: &Ward) -> Result<String, Fail> {
     Ok(ballots_text(alloc, ward, &Bundles::new(alloc), &[])?)
 }
 
-/// Returns its sheet.
+/// Returns the sheet of an uncontested ward.
 fn sheet_of(alloc: Global, ward: &Ward) -> Result<String, Fail> {
     if !can_be_printed(ward) {
         return Err(Fail::from("no ward that can be printed"));

@@ -1,5 +1,5 @@
-//! The codes of clerks and of the office: their file, which requests are authenticated, how many wrong codes reach the limit, and
-//! how codes are generated.
+//! The codes of clerks and of the office: their file, which requests are authenticated, how many wrong codes it takes
+//! to reach the limit, and how codes are generated.
 
 ghost use Rattle.std.specs.Prelude.{Some, take};
 
@@ -29,9 +29,9 @@ const WITH_OFFICE: &str = "4 kf7m-2wxt\noffice abcd-efgh-jkmn-prst\r\n9 w3hd-4ps
 /// The credentials that the office sends with that code.
 const OFFICE: &str = "Basic b2ZmaWNlOmFiY2QtZWZnaC1qa21uLXByc3Q=";
 
-/// Values that may be sent to the office, and whether it accepts them. First its own; then those of two clerks, an empty value,
-/// the office's code under clerk 4's name, and clerk 4's code under the office's name; then the office's name with a capital, its
-/// code cut short, and another scheme.
+/// Values that may be sent to the office, and whether it accepts them. First its own. Then those of two clerks, an
+/// empty value, the office's code under clerk 4's name, and clerk 4's code under the office's name. Last, the office's
+/// name with a capital letter, its code cut short, and a different scheme.
 const TO_OFFICE: [(&str, bool); 9] = [
     (OFFICE, true),
     (FOUR, false),
@@ -44,7 +44,7 @@ const TO_OFFICE: [(&str, bool); 9] = [
     ("Bearer b2ZmaWNlOmFiY2QtZWZnaC1qa21uLXByc3Q=", false),
 ];
 
-/// Texts that aren't valid files of codes, and the fault of each.
+/// Texts that aren't valid files of codes, and the fault in each.
 const FAULTS: [(&str, &str); 24] = [
     ("4", "2 at 1"),
     ("kf7m-2wxt\n", "1 at 1"),
@@ -81,7 +81,7 @@ const FAULTS: [(&str, &str); 24] = [
     ),
 ];
 
-/// Requests under a clerk's number, with the values of `Authorization`.
+/// Requests under a clerk's number, with their values of `Authorization`.
 const SENT: [(&str, &str, &str); 20] = [
     ("GET /clerks/4/work", FOUR, "Work { clerk: 4 }"),
     ("GET /clerks/9/work", NINE, "Work { clerk: 9 }"),
@@ -109,7 +109,8 @@ const SENT: [(&str, &str, &str); 20] = [
     ("GET /clerks/4/work", NINE, "WrongCode(Clerk(4))"),
     ("GET /clerks/9/work", FOUR, "WrongCode(Clerk(9))"),
     ("GET /clerks/5/work", FOUR, "WrongCode(Clerk(5))"),
-    // In capitals, cut short, with clerk 9's name, with clerk 9's code, with another number, and under another scheme.
+    // In capitals, cut short, with clerk 9's name, with clerk 9's code, with a different number, and under a different
+    // scheme.
     (
         "GET /clerks/4/work",
         "Basic NDpLRjdNLTJXWFQ=",
@@ -159,7 +160,7 @@ const OTHER_REQUESTS: [(&str, &str, &str); 5] = [
     ),
 ];
 
-/// Codes sent under clerk 4's number, how many times, and when; and whether the limit is then reached.
+/// Codes sent under clerk 4's number, how many times, and when; and whether the limit has then been reached.
 const CODES_SENT: [(&str, u32, u64, bool); 9] = [
     (FOUR, 6_001, 0, false),
     (NINE, 5_999, 100_000, false),
@@ -178,16 +179,16 @@ const DRAWN: [u8; 26] = [
     19,
 ];
 
-/// The codes generated from these bytes.
+/// The codes generated from `DRAWN`.
 const MADE: &str = "4 abcd-a7fg-2347\n5 jkmn-prst-uwxy\n";
 
 /// Bytes that generate the office's code, one letter each.
 const DRAWN_FOR_OFFICE: [u8; 16] = [0, 1, 2, 3, 4, 5, 6, 7, 8, 9, 10, 11, 12, 13, 14, 15];
 
-/// The codes generated from the clerks' bytes, followed by these.
+/// The codes generated from the clerks' bytes followed by the office's.
 const MADE_WITH_OFFICE: &str = "4 abcd-a7fg-2347\n5 jkmn-prst-uwxy\noffice abcd-efgh-jkmn-prst\n";
 
-/// Returns the report on a text that is read as a file of codes.
+/// Returns the report on a text read as a file of codes.
 fn fault_in(alloc: Global, text: &str) -> Result<String, AllocError> {
     match Codes::read(alloc, text.as_bytes()) {
         Ok(_) => String::from_str(alloc, "none"),
@@ -199,7 +200,7 @@ fn fault_in(alloc: Global, text: &str) -> Result<String, AllocError> {
     }
 }
 
-/// Sends a request with these header lines.
+/// Sends a request with the given header lines.
 fn asks_at(
     rt: &(impl Abort + AllocGlobal),
     given: HttpSettings<'_>,
@@ -211,8 +212,8 @@ fn asks_at(
     asks_of(rt, given, request.as_bytes(), asked)
 }
 
-/// Sends this many requests under clerk 4's number at this time, with this value of `Authorization`. Returns whether the limit is
-/// then reached.
+/// Sends the given number of requests under clerk 4's number at the given time, with the given value of
+/// `Authorization`. Returns whether the limit has then been reached.
 fn is_reached_after(
     alloc: Global,
     given: HttpSettings<'_>,
@@ -235,7 +236,7 @@ fn is_reached_after(
     Ok(limit.is_reached(now))
 }
 
-/// A random source that returns these bytes in turn, and then fails.
+/// A random source that returns its bytes in turn, and then fails.
 #[derive(Drop)]
 struct Known<'a> {
     bytes: &'a [u8],
@@ -260,7 +261,7 @@ impl RandomSource for Known<'_> {
     }
 }
 
-/// Returns settings that have only a gate, with these codes.
+/// Returns settings with nothing but a gate, which has the given codes.
 fn gate_of(codes: &Codes) -> HttpSettings<'_> {
     let page = Page {
         text: "<p>keying</p>",
@@ -280,7 +281,7 @@ fn gate_of(codes: &Codes) -> HttpSettings<'_> {
     }
 }
 
-/// Asserts the reports on texts that aren't valid files of codes.
+/// Checks the reports on texts that aren't valid files of codes.
 fn faults_are_told(rt: &(impl Abort + AllocGlobal)) -> Result<(), Fail> {
     for (text, told) in &FAULTS {
         is_text(rt, fault_in(rt.alloc(), *text)?.as_str(), *told);
@@ -288,7 +289,8 @@ fn faults_are_told(rt: &(impl Abort + AllocGlobal)) -> Result<(), Fail> {
     Ok(())
 }
 
-/// Asserts what a request asks with this value of `Authorization`, or without one if it is empty.
+/// Checks what a request with the given value of `Authorization` asks for, or one without that header if the value is
+/// empty.
 fn asks_sent(
     rt: &(impl Abort + AllocGlobal),
     given: HttpSettings<'_>,
@@ -303,7 +305,7 @@ fn asks_sent(
     asks_at(rt, given, line, headers.as_str(), asked)
 }
 
-/// Sends each of these values.
+/// Sends each of the values in `SENT`.
 fn asks_all(rt: &(impl Abort + AllocGlobal), given: HttpSettings<'_>) -> Result<(), Fail> {
     for (line, value, asked) in &SENT {
         asks_sent(rt, given, *line, *value, *asked)?;
@@ -311,8 +313,8 @@ fn asks_all(rt: &(impl Abort + AllocGlobal), given: HttpSettings<'_>) -> Result<
     Ok(())
 }
 
-/// Asserts that exactly one code is required, only under a clerk's number, and that a request from a foreign page is rejected
-/// before its code is checked.
+/// Checks that exactly one code is required, only under a clerk's number, and that a request from a foreign page is
+/// rejected before its code is checked.
 fn asks_other(rt: &(impl Abort + AllocGlobal), given: HttpSettings<'_>) -> Result<(), Fail> {
     for (line, headers, asked) in &OTHER_REQUESTS {
         asks_at(rt, given, *line, *headers, *asked)?;
@@ -320,7 +322,7 @@ fn asks_other(rt: &(impl Abort + AllocGlobal), given: HttpSettings<'_>) -> Resul
     Ok(())
 }
 
-/// Requests for the console with this value of `Authorization`, or without one if it is empty.
+/// Requests to the console, each with a value of `Authorization`, or without that header if the value is empty.
 const OF_CONSOLE: [(&str, &str, &str); 13] = [
     (
         "GET /office/",
@@ -341,7 +343,7 @@ const OF_CONSOLE: [(&str, &str, &str); 13] = [
     ("GET /clerks/4/work", OFFICE, "WrongCode(Clerk(4))"),
 ];
 
-/// The bodies of orders, and what they ask.
+/// The bodies of orders, and what they ask for.
 const ORDERS: [(&str, &str); 12] = [
     (r#"{"files":{},"words":["wards"]}"#, "office: wards"),
     (
@@ -363,7 +365,7 @@ const ORDERS: [(&str, &str); 12] = [
     ("wards", "BadRequest"),
 ];
 
-/// Asserts what requests for the console ask if the office has a code.
+/// Checks what requests to the console ask for if the office has a code.
 fn asks_console(rt: &(impl Abort + AllocGlobal), given: HttpSettings<'_>) -> Result<(), Fail> {
     for (line, value, asked) in &OF_CONSOLE {
         asks_sent(rt, given, *line, *value, *asked)?;
@@ -378,7 +380,7 @@ fn asks_console(rt: &(impl Abort + AllocGlobal), given: HttpSettings<'_>) -> Res
     Ok(())
 }
 
-/// Asserts when the limit on wrong codes is reached, and until when it applies.
+/// Checks when the limit on wrong codes is reached, and for how long it applies.
 fn limits_wrong_codes(
     rt: &(impl Abort + AllocGlobal),
     given: HttpSettings<'_>,
@@ -393,7 +395,7 @@ fn limits_wrong_codes(
     Ok(())
 }
 
-/// Asserts which requests are authenticated if the file has a code for the office.
+/// Checks which requests are authenticated if the file has a code for the office.
 fn office_is_let_in(rt: &(impl Abort + AllocGlobal), held: &Codes) -> Result<(), Fail> {
     assert!(rt; held.has_office());
     for (sent, is_its) in &TO_OFFICE {
@@ -406,7 +408,7 @@ fn office_is_let_in(rt: &(impl Abort + AllocGlobal), held: &Codes) -> Result<(),
     Ok(())
 }
 
-/// Returns the codes of a file's text.
+/// Returns the codes in a file's text.
 fn codes_of(alloc: Global, text: &str) -> Result<Codes, Fail> {
     match Codes::read(alloc, text.as_bytes()) {
         Ok(held) => Ok(held),
@@ -434,8 +436,8 @@ fn codes_of_clerks(rt: HostRuntime) -> Result<(), Fail> {
     office_is_let_in(&rt, &with_office)
 }
 
-/// Returns the codes for clerks 4 and 5, and for the office if asked, generated from these bytes: their text, or the reason why
-/// there are none.
+/// Returns the codes for clerks 4 and 5, and for the office if `office` is true, generated from the given bytes: their
+/// text, or the reason there are none.
 fn made_of(alloc: Global, bytes: &[u8], office: bool) -> Result<String, AllocError> {
     let clerks = ClerkRange { first: 4, last: 5 };
     let mut known = Known {
@@ -456,7 +458,7 @@ fn made_of(alloc: Global, bytes: &[u8], office: bool) -> Result<String, AllocErr
     }
 }
 
-/// Asserts that codes are generated from just the bytes that were drawn, and that no file with two equal codes is made.
+/// Checks that codes are generated from the drawn bytes alone, and that no file with two equal codes is made.
 fn makes_codes(rt: &(impl Abort + AllocGlobal)) -> Result<(), Fail> {
     let alloc = rt.alloc();
     is_text(rt, made_of(alloc, &DRAWN, false)?.as_str(), MADE);
@@ -483,7 +485,7 @@ fn makes_codes(rt: &(impl Abort + AllocGlobal)) -> Result<(), Fail> {
     Ok(())
 }
 
-/// Asserts that the office's code is generated from the bytes after those of the clerks' codes.
+/// Checks that the office's code is generated from the bytes that follow those of the clerks' codes.
 fn makes_with_office(rt: &(impl Abort + AllocGlobal)) -> Result<(), Fail> {
     let alloc = rt.alloc();
     let mut bytes = vec![in alloc; 0; 40]?;

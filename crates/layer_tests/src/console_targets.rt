@@ -1,4 +1,4 @@
-//! The resources that the targets of the officer's console name.
+//! The resources named by the targets of the officer's console.
 
 use crate::wire_requests::asks_of;
 use std::process::Abort;
@@ -49,7 +49,7 @@ const NOTHING: [&str; 15] = [
     "/office/wards?actor=0",
 ];
 
-/// Asserts what a request for this target asks, with this value of `Authorization`.
+/// Checks what a request for the given target, with the given value of `Authorization`, asks for.
 fn asks_target(
     rt: &(impl Abort + AllocGlobal),
     given: HttpSettings<'_>,
@@ -61,7 +61,7 @@ fn asks_target(
     asks_of(rt, given, request.as_bytes(), asked)
 }
 
-/// Asserts what is read with the office's code.
+/// Checks what is read with the office's code.
 pub fn asks_reads(
     rt: &(impl Abort + AllocGlobal),
     given: HttpSettings<'_>,

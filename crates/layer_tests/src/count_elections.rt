@@ -17,12 +17,12 @@ use std::test::Fail;
 use votes::{MAX_PAPERS, Votes};
 use worked::{Expected, Worked};
 
-/// Asserts a condition on a worked election.
+/// Checks a condition on a worked election.
 fn holds(rt: &impl Abort, worked: &Worked, what: &str, is_so: bool) {
     assert!(rt; is_so, "{}: {what}", worked.name);
 }
 
-/// Asserts a condition on the bundle with this list and this number of papers.
+/// Checks a condition on the bundle with the given list and number of papers.
 fn holds_of_list(rt: &impl Abort, list: &Prefs, papers: u32, is_so: bool) {
     assert!(rt; is_so, "{list:?}: {papers}");
 }
@@ -38,7 +38,7 @@ fn first_columns(n: u8) -> Columns {
     columns
 }
 
-/// Returns a set with these numbers added.
+/// Returns the given set with more numbers added.
 fn with_all(mut columns: Columns, more: &[u8]) -> Columns {
     for c in more {
         if *c >= 1 && *c <= 30 {
@@ -53,7 +53,7 @@ fn prefs_of(list: &[u8]) -> Result<Prefs, &'static str> {
     Prefs::from_slice(list).ok_or("no ranking")
 }
 
-/// Returns the papers of these groups.
+/// Returns the papers of the given groups.
 fn papers_of(alloc: Global, groups: &[(u32, &[u8])]) -> Result<Vec<Prefs>, Fail> {
     let mut papers = Vec::new(alloc);
     for (count, list) in groups {
@@ -73,7 +73,7 @@ fn add(bundles: &mut Bundles, paper: Prefs) -> Result<(), AllocError> {
     Err(AllocError)
 }
 
-/// Returns these papers as bundles, added one by one from the last to the first.
+/// Returns the given papers as bundles, added one by one from last to first.
 fn bundled(alloc: Global, papers: &[Prefs]) -> Result<Bundles, AllocError> {
     let mut bundles = Bundles::new(alloc);
     for paper in papers.iter().rev() {
@@ -82,13 +82,13 @@ fn bundled(alloc: Global, papers: &[Prefs]) -> Result<Bundles, AllocError> {
     Ok(bundles)
 }
 
-/// Returns the papers of these groups as bundles.
+/// Returns the papers of the given groups as bundles.
 pub fn bundles_of(alloc: Global, groups: &[(u32, &[u8])]) -> Result<Bundles, Fail> {
     let papers = papers_of(alloc, groups)?;
     Ok(bundled(alloc, &papers)?)
 }
 
-/// Returns whether the votes begin with these numbers of units.
+/// Returns whether the votes begin with the given numbers of units.
 fn are_units(votes: &[Votes], units: &[u64]) -> bool {
     for (votes, units) in votes.iter().zip(units) {
         if votes.units() != *units {
@@ -110,12 +110,12 @@ fn records(stage: &Stage, expected: &Expected) -> bool {
     stage.action == expected.action && stage.elected.as_slice() == expected.elected && has_figures
 }
 
-/// Asserts that a stage of a worked election is the expected one.
+/// Checks that a stage of a worked election is the expected one.
 fn record_one(rt: &impl Abort, worked: &Worked, stage: &Stage, expected: &Expected) {
     assert!(rt; records(stage, expected), "{}: {stage:?}", worked.name);
 }
 
-/// Asserts that these are all of a worked election's stages, and that each is as expected.
+/// Checks that the given stages are all of a worked election's, and that each is as expected.
 fn record_all(rt: &impl Abort, worked: &Worked, stages: &[Stage], expected: &[Expected]) {
     let are_all = stages.len() == expected.len();
     holds(rt, worked, "how many stages are recorded", are_all);

@@ -1,4 +1,4 @@
-//! Import files that are read whole or refused, and the texts of their faults.
+//! Import files that are read in full or refused, and the texts of their faults.
 
 use crate::sheet_outputs::is_text;
 use keyfile::{CandidateRow, FileDigest, FileFault, Flaw, read_candidates, read_keying};
@@ -10,7 +10,7 @@ use std::io::{ErrorKind, Read};
 use std::process::Abort;
 use std::test::Fail;
 
-/// A reader that returns these bytes, one at a time, and then fails.
+/// A reader that returns its bytes one at a time, and then fails.
 #[derive(Drop)]
 struct TornFile<'a> {
     left: &'a [u8],
@@ -47,7 +47,7 @@ fn papers_text(alloc: Global, papers: &[String]) -> Result<String, AllocError> {
     Ok(text)
 }
 
-/// Returns the papers of clerk 4's keying of batch 12, or the fault, as text. The error is a failed allocation.
+/// Returns the papers in clerk 4's keying of batch 12, or the fault, as text. The error is a failed allocation.
 fn keying_text<R: Read + Drop>(
     alloc: Global,
     file: R,
@@ -85,8 +85,8 @@ fn fault_text(alloc: Global, fault: FileFault) -> Result<String, AllocError> {
     format!(in alloc; "{fault}")
 }
 
-/// Files of a keying for the candidates 1, 2 and 3, and the result of each: its papers, or its fault. `~` and `^` represent the
-/// bytes FF and FE, which never occur in UTF-8.
+/// Files with a keying for candidates 1, 2 and 3, and the result of each: its papers or its fault. `~` and `^`
+/// represent the bytes FF and FE, which never occur in UTF-8.
 const KEYINGS: [(&str, &str); 22] = [
     ("paper,1,2,3\n1,1,2,\n2,D,,\n", "|1,2,|D"),
     (
@@ -119,8 +119,8 @@ const KEYINGS: [(&str, &str); 22] = [
         "paper 12/04,1,2,3\n1,1,2,\n",
         "file fault 1 at record 0: header",
     ),
-    // Files as other programs save them: with a byte order mark, other line endings, quotes, empty or blank lines or lines of
-    // commas at the end, other separators, or in UTF-16.
+    // Files as other programs save them: with a byte order mark, different line endings, quotes, empty or blank lines
+    // or lines of commas at the end, different separators, or in UTF-16.
     ("\u{feff}paper,1,2,3\n1,1,2,\n", "|1,2,"),
     ("paper,1,2,3\r\n1,1,2,\r\n2,D,,\r\n", "|1,2,|D"),
     ("paper,1,2,3\r1,1,2,\r2,D,,", "|1,2,|D"),
@@ -177,7 +177,7 @@ fn bytes_of(alloc: Global, text: &str) -> Result<Vec<u8>, AllocError> {
     Ok(bytes)
 }
 
-/// Asserts that reading a file results in these papers, or in this fault.
+/// Checks that reading a file results in the given papers, or in the given fault.
 fn gives<R: Read + Drop>(
     rt: &(impl Abort + AllocGlobal),
     file: R,
@@ -189,7 +189,7 @@ fn gives<R: Read + Drop>(
     Ok(())
 }
 
-/// Asserts the result for each file.
+/// Checks the result for each file.
 fn all_give(
     rt: &(impl Abort + AllocGlobal),
     files: &[(&str, &str)],
@@ -202,14 +202,14 @@ fn all_give(
     Ok(())
 }
 
-/// Asserts the candidates that are read from a file.
+/// Checks the candidates read from a file.
 fn gives_candidates(rt: &(impl Abort + AllocGlobal), file: &str, wanted: &str) -> Result<(), Fail> {
     let text = candidates_text(rt.alloc(), file.as_bytes())?;
     is_text(rt, text.as_str(), wanted);
     Ok(())
 }
 
-/// Returns the file of a keying with 501 papers, one more than is allowed.
+/// Returns a file with a keying of 501 papers, one more than is allowed.
 fn long_file(alloc: Global) -> Result<String, AllocError> {
     let mut file = String::from_str(alloc, "paper,1,2,3\n")?;
     for number in 1..502 {
@@ -218,7 +218,7 @@ fn long_file(alloc: Global) -> Result<String, AllocError> {
     Ok(file)
 }
 
-/// Asserts that a failed read is reported with the number of its record.
+/// Checks that a failed read is reported with its record number.
 fn break_off(rt: &(impl Abort + AllocGlobal), digest: Option<FileDigest>) -> Result<(), Fail> {
     let left = b"paper,1,2,3\n1,,,\n2,,".as_slice();
     gives(

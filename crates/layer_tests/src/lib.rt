@@ -1,8 +1,8 @@
-//! Tests of the layers from `votes` to `wire`, each by its public calls. `register` and `rowcheck` are tested by the orders that
-//! examples/transcripts.sh plays: each command and each of its refusals.
+//! Tests of the layers from `votes` to `wire`, each through its public functions. `register` and `rowcheck` are tested
+//! by the orders in examples/transcripts.sh: each command and each of its refusals.
 //!
-//! A crate's tests are proved together with the whole crate. Here, above all the layers, tests load only the layers' statements,
-//! so the layers aren't proved a second time.
+//! A crate's tests are proved together with the whole crate. Here, in a crate above all the layers, tests load only the
+//! layers' statements, so the layers aren't proved a second time.
 #![tactic(auto)]
 
 #[cfg(test)]

@@ -12,7 +12,7 @@ fn three() -> Columns {
     Columns::empty().with(3).with(1).with(2).with(1)
 }
 
-/// Returns the paper with columns 1, 2 and 3 that a text describes, and asserts that the paper is printed as the same text.
+/// Returns the paper with columns 1, 2 and 3 that a text describes, and checks that the paper is printed as the same text.
 fn keyed(rt: &(impl Abort + AllocGlobal), text: &str) -> Result<Keyed, Fail> {
     let keyed = Marks::read(text.as_bytes(), three())?;
     let again = keyed.text(rt.alloc())?;
@@ -37,7 +37,7 @@ const JUDGED: [(&str, &[u8], u32); 6] = [
     (",2,", &[], 1),
 ];
 
-/// Judges a paper, and asserts the preferences or the code.
+/// Judges a paper, and checks the preferences or the code.
 fn is_judged(rt: &impl Abort, paper: &Marked, (text, wanted, code): &(&str, &[u8], u32)) {
     match judge(paper) {
         Ok(prefs) => assert!(rt; prefs.as_slice() == *wanted, "{text}"),
@@ -45,7 +45,7 @@ fn is_judged(rt: &impl Abort, paper: &Marked, (text, wanted, code): &(&str, &[u8
     }
 }
 
-/// Asserts that a text is that of a doubtful paper.
+/// Checks that a text is that of a doubtful paper.
 fn is_doubtful(rt: &(impl Abort + AllocGlobal), text: &str) -> Result<(), Fail> {
     let keyed = keyed(rt, text)?;
     assert!(rt; matches!(keyed, Keyed::Doubtful));
@@ -58,17 +58,17 @@ fn papers_are_judged(rt: HostRuntime) -> Result<(), Fail> {
         let paper = marked(&rt, case.0)?;
         is_judged(&rt, &paper, case);
     }
-    // A count holds millions of these in memory.
+    // A count holds millions of these values in memory.
     assert!(&rt; std::mem::size_of::<Prefs>() == 30);
     is_doubtful(&rt, "D")
 }
 
-/// Returns the fault of a text.
+/// Returns the fault in a text.
 fn fault_of(text: &[u8], columns: Columns) -> Option<MarkFault> {
     Marks::read(text, columns).err()
 }
 
-/// Texts of a paper with columns 1, 2 and 3, with the fault of each and the fault's number.
+/// Texts of a paper with columns 1, 2 and 3, with the fault in each and that fault's number.
 const FAULTS: [(&str, MarkFault, u32); 9] = [
     ("1,2", MarkFault::FieldCount, 1),
     ("", MarkFault::FieldCount, 1),
@@ -81,14 +81,14 @@ const FAULTS: [(&str, MarkFault, u32); 9] = [
     ("100,0,", MarkFault::TooLarge, 3),
 ];
 
-/// Asserts the fault of a text.
+/// Checks the fault in a text.
 fn has_fault(rt: &impl Abort, (text, fault, number): &(&str, MarkFault, u32)) {
     let found = fault_of(text.as_bytes(), three());
     assert!(rt; found == Some(*fault), "at {text}");
     assert!(rt; fault.number() == *number, "at {text}");
 }
 
-/// Asserts the result of reading a paper without columns.
+/// Checks the result of reading a paper without columns.
 fn has_no_columns(rt: &impl Abort) {
     let none = Columns::empty();
     assert!(rt; fault_of(b"", none) == Some(MarkFault::FieldCount));
@@ -103,7 +103,7 @@ fn texts_with_faults(rt: HostRuntime) {
     has_no_columns(&rt);
 }
 
-/// Returns a standing in which 2 and 4 continue, 1 is elected, and 3 is excluded.
+/// Returns a standing in which candidates 2 and 4 continue, 1 is elected, and 3 is excluded.
 fn standing() -> Standing {
     Standing::new(
         Columns::empty().with(2).with(4),
@@ -112,10 +112,10 @@ fn standing() -> Standing {
     )
 }
 
-/// The preferences in which the next available one is searched for.
+/// The preferences searched for the next available one.
 const PREFS: &[u8] = &[1, 3, 4, 5, 2];
 
-/// The place at which the search in those preferences starts, and the next available one; 0 if there is none.
+/// The place at which the search through those preferences starts, and the next available one; 0 if there is none.
 const NEXT: [(usize, u8); 5] = [(0, 4), (2, 4), (3, 2), (5, 0), (9, 0)];
 
 /// The status of some candidates.
@@ -127,13 +127,13 @@ const STANDING: [(u8, CandidateStatus); 5] = [
     (200, CandidateStatus::Absent),
 ];
 
-/// Asserts which preference is the next available one.
+/// Checks which preference is the next available one.
 fn is_next(rt: &impl Abort, standing: &Standing, (from, wanted): &(usize, u8)) {
     let next = next_available(PREFS, *from, standing).unwrap_or(0);
     assert!(rt; next == *wanted, "from {from}: {next}");
 }
 
-/// Asserts the status of a candidate.
+/// Checks the status of a candidate.
 fn stands(rt: &impl Abort, standing: &Standing, (c, status): &(u8, CandidateStatus)) {
     assert!(rt; standing.status(*c) == *status, "at {c}");
     let is_continuing = *status == CandidateStatus::Continuing;
@@ -152,7 +152,7 @@ fn next_available_preferences(rt: HostRuntime) {
     }
 }
 
-/// The texts of the errors, ordered by their numbers.
+/// The texts of the errors, ordered by number.
 const TEXTS: &str =
     "wrong number of fields|not a number|number over 99|no first preference|more than one first preference|\
     no official mark|voter identifiable|void for uncertainty";

@@ -1,4 +1,4 @@
-//! What the public targets name, if the office shows its count in public.
+//! What the public targets name if the office shows its count publicly.
 
 use crate::wire_requests::{NOTHING, asks_of};
 use std::process::Abort;
@@ -41,7 +41,7 @@ const ELSEWHERE: [&str; 10] = [
     "/wards//page",
 ];
 
-/// Asserts what a request for this target asks.
+/// Checks what a request for the given target asks for.
 fn asks_target(
     rt: &(impl Abort + AllocGlobal),
     given: HttpSettings<'_>,

@@ -59,7 +59,7 @@ impl<'a> Printed for WardBallots<'a> {
 /// The ward's candidates.
 const NAMED: [(u8, &str); 3] = [(1, "Ann"), (3, "B. \"Bob\" \\ Brün"), (6, "Cy")];
 
-/// Its papers.
+/// The ward's papers.
 const PAPERS: [(u32, &[u8]); 4] = [(1, &[6]), (2, &[1, 6]), (3, &[1, 3, 6]), (2, &[1])];
 
 fn prints_poll_of(

@@ -1,6 +1,6 @@
-//! Printing to a text, to a sink, and to a sink without room for the whole text.
+//! Printing to a string, to a sink, and to a sink without room for the whole text.
 //!
-//! Tests are generic over what is printed, so their proofs don't depend on it, and are short.
+//! Tests are generic over what is printed, so their proofs are short and don't depend on it.
 
 ghost use Rattle.std.specs.Prelude.{◌-◌, ◌^◌, ◌<◌};
 
@@ -14,20 +14,20 @@ use votes::Votes;
 
 /// A value that is printed. A value that can't be printed results in an error.
 pub trait Printed {
-    /// Returns its text.
+    /// Returns the value's text.
     fn text(&self, alloc: Global) -> Result<String, Fail>;
 
-    /// Writes its text to a sink.
+    /// Writes the value's text to a sink.
     fn write<W: Sink>(&self, sink: &mut W) -> Result<(), Broken>
         requires { W.failed sink.old < 2 ^ 64 - 1 };
 }
 
-/// Asserts that a text is the expected one.
+/// Checks that a text is the expected one.
 pub fn is_text(rt: &impl Abort, found: &str, wanted: &str) {
     assert_eq!(rt; found, wanted);
 }
 
-/// Asserts that bytes are the expected text.
+/// Checks that bytes are the expected text.
 pub fn is_told(rt: &impl Abort, found: &[u8], wanted: &str) {
     is_text(
         rt,
@@ -36,14 +36,14 @@ pub fn is_told(rt: &impl Abort, found: &[u8], wanted: &str) {
     );
 }
 
-/// Returns the bytes of its text that a sink in memory accepts.
+/// Returns the bytes of a value's text that an in-memory sink accepts.
 fn written<P: Printed>(alloc: Global, printed: &P) -> Result<Vec<u8>, Broken> {
     let mut page = Vec::new(alloc);
     printed.write(&mut Counted::new(&mut page))?;
     Ok(page)
 }
 
-/// Asserts that a sink of 20 bytes fails once, and has accepted a prefix of the text.
+/// Checks that a sink with room for 20 bytes fails once, and has accepted a prefix of the text.
 fn breaks<P: Printed>(rt: &impl Abort, printed: &P, text: &str) {
     let mut room = [0; 20];
     let mut sink = Counted::new(room.as_mut_slice());
@@ -51,7 +51,7 @@ fn breaks<P: Printed>(rt: &impl Abort, printed: &P, text: &str) {
     assert!(rt; text.as_bytes().starts_with(&room));
 }
 
-/// Writes the value to a sink, and to one of 20 bytes, and compares the bytes with its text.
+/// Writes the value to a sink, and to one with room for 20 bytes, and compares the bytes with the value's text.
 fn reaches_sinks<P: Printed>(
     rt: &(impl Abort + AllocGlobal),
     printed: &P,
@@ -63,14 +63,14 @@ fn reaches_sinks<P: Printed>(
     Ok(())
 }
 
-/// Prints the value to a text, which is returned, and to both sinks.
+/// Prints the value to a string, which is returned, and to both sinks.
 pub fn print<P: Printed>(rt: &(impl Abort + AllocGlobal), printed: &P) -> Result<String, Fail> {
     let text = printed.text(rt.alloc())?;
     reaches_sinks(rt, printed, text.as_str())?;
     Ok(text)
 }
 
-/// Prints the value, and asserts its text.
+/// Prints the value, and checks its text.
 pub fn prints<P: Printed>(
     rt: &(impl Abort + AllocGlobal),
     printed: &P,
@@ -81,7 +81,7 @@ pub fn prints<P: Printed>(
     Ok(())
 }
 
-/// Returns candidates with these numbers and names.
+/// Returns candidates with the given numbers and names.
 pub fn candidates_of(alloc: Global, named: &[(u8, &str)]) -> Result<Vec<(u8, String)>, AllocError> {
     let mut candidates = Vec::new(alloc);
     for (c, name) in named {
@@ -90,7 +90,7 @@ pub fn candidates_of(alloc: Global, named: &[(u8, &str)]) -> Result<Vec<(u8, Str
     Ok(candidates)
 }
 
-/// Returns a stage at which candidates 1, 2 and 3 have these numbers of units.
+/// Returns a stage at which candidates 1, 2 and 3 have the given numbers of units.
 pub fn stage_of(action: Action, units: [u64; 3], elected: Columns, lost: u64) -> Stage {
     let mut votes = [Votes::from_units(0); 30];
     votes[0] = Votes::from_units(units[0]);
@@ -105,7 +105,7 @@ pub fn stage_of(action: Action, units: [u64; 3], elected: Columns, lost: u64) ->
     }
 }
 
-/// Returns the three stages of a ward of two seats, at which 1 and 3 are elected.
+/// Returns the three stages of a ward with two seats, in which candidates 1 and 3 are elected.
 pub fn three_stages() -> [Stage; 3] {
     let nobody = Columns::empty();
     [

@@ -1,5 +1,5 @@
-//! The pages of wards, and the page of all wards, compared byte for byte except for their style, which is given in its
-//! definition.
+//! The pages of wards, and the page of all wards, compared byte for byte except for their style, which its definition
+//! gives.
 
 ghost use Rattle.std.specs.Prelude.{◌-◌, ◌^◌, ◌<◌};
 
@@ -123,7 +123,7 @@ const DECLARED: &str = r##"
 </html>
 "##;
 
-/// The same, before the first stage.
+/// The text after the style, on the page of a ward before the first stage.
 const NO_STAGE: &str = r##"
 </head>
 <body>
@@ -161,7 +161,7 @@ const NO_STAGE: &str = r##"
 </html>
 "##;
 
-/// The same, for an uncontested ward, which has one more seat than candidates.
+/// The text after the style, on the page of an uncontested ward, which has one more seat than candidates.
 const UNCONTESTED: &str = r##"
 </head>
 <body>
@@ -197,7 +197,8 @@ const UNCONTESTED: &str = r##"
 </html>
 "##;
 
-/// The same, before its declaration: it is known without a count that a seat stays empty.
+/// The text after the style, on the page of that ward before its declaration: even without a count, it is known that a
+/// seat stays empty.
 const NOT_DECLARED: &str = r##"
 </head>
 <body>
@@ -229,7 +230,7 @@ const INDEX_HEAD: &str = r##"<!DOCTYPE html>
 <title>Wards</title>
 "##;
 
-/// The text after it.
+/// The text after the style, on the page of all wards.
 const INDEX: &str = r##"
 </head>
 <body>
@@ -345,7 +346,7 @@ fn compare(rt: &impl Abort, text: &str, above: &str, body: &str) -> Result<(), F
     }
 }
 
-/// Prints a page, and compares it.
+/// Prints a page, and compares it with the expected texts.
 fn prints_page<P: Printed>(
     rt: &(impl Abort + AllocGlobal),
     printed: &P,
@@ -356,7 +357,7 @@ fn prints_page<P: Printed>(
     compare(rt, text.as_str(), above, body)
 }
 
-/// Checks that a page contains these words.
+/// Checks that a page contains the given words.
 fn has_words<P: Printed>(
     rt: &(impl Abort + AllocGlobal),
     printed: &P,
@@ -369,7 +370,7 @@ fn has_words<P: Printed>(
     Ok(())
 }
 
-/// The words of two tables, of eight stages and of one.
+/// The words of two tables, one with eight stages and one with a single stage.
 const TABLES: [&str; 4] = [
     " aria-label=\"Stages 1 to 8\">",
     "<caption>Stages 1 to 8</caption>",
@@ -377,7 +378,7 @@ const TABLES: [&str; 4] = [
     "<caption>Stage 9</caption>",
 ];
 
-/// The words of a lot among three, and of a lot whose stage hasn't been counted yet.
+/// The words for a lot among three candidates, and for a lot whose stage hasn't been counted yet.
 const LOTS: [&str; 2] = [
     "<li>Lot at stage 2 between 1 <bdi>Ann &lt;b&gt;</bdi>, 2 <bdi>&quot;Bob&quot; &amp; &#39;Co&#39;</bdi> and 3 <bdi>רות</bdi>: excluded 3 <bdi>רות</bdi></li>",
     "<li>Lot at stage 3 between 1 <bdi>Ann &lt;b&gt;</bdi> and 2 <bdi>&quot;Bob&quot; &amp; &#39;Co&#39;</bdi>: drawn 1 <bdi>Ann &lt;b&gt;</bdi></li>",
@@ -446,7 +447,7 @@ fn prints_index(rt: &(impl Abort + AllocGlobal)) -> Result<(), Fail> {
     prints_page(rt, &printed, INDEX_HEAD, INDEX)
 }
 
-/// Returns the ward with these candidates.
+/// Returns the ward with the given candidates.
 fn harbour<'a>(candidates: &'a [(u8, String)], seats: u8, poll: Option<Poll>) -> Ward<'a> {
     Ward {
         number: 7,
@@ -457,12 +458,12 @@ fn harbour<'a>(candidates: &'a [(u8, String)], seats: u8, poll: Option<Poll>) ->
     }
 }
 
-/// Returns the poll with these numbers of rejected papers.
+/// Returns the poll with the given numbers of rejected papers.
 fn poll_of(rejected: [u32; 5]) -> Option<Poll> {
     Some(Poll { valid: 9, rejected })
 }
 
-/// Returns the ward of a poll with rejected papers of each code.
+/// Returns the ward of a poll that has rejected papers for each code.
 fn with_rejected<'a>(candidates: &'a [(u8, String)]) -> Ward<'a> {
     harbour(candidates, 2, poll_of([1, 20, 300, 4000, 50000]))
 }
@@ -482,7 +483,7 @@ fn prints_tables_and_lots(
     has_words(rt, &undeclared(&ward, &stages, &[(2, 3), (3, 1)]), &LOTS)
 }
 
-/// Prints the page of a declared ward, and its pages before the first stage and after more of them.
+/// Prints the page of a declared ward, and its pages before the first stage and after later ones.
 fn prints_contested(
     rt: &(impl Abort + AllocGlobal),
     candidates: &[(u8, String)],

@@ -6,7 +6,7 @@ use sheet::{Ward, can_be_printed, spreadsheet_text};
 use std::process::Abort;
 use std::test::Fail;
 
-/// A name may contain a quotation mark and a comma, and may begin as a formula does.
+/// A name may contain a quotation mark and a comma, and may begin the way a formula does.
 const HARBOUR: &str =
     r#""candidate","name","Stage 1: first preferences","Stage 1 gained","Stage 1 lost","Stage 1 standing","Stage 2: surplus of 1","Stage 2 gained","Stage 2 lost","Stage 2 standing","Stage 3: exclusion of 2, last vacancies","Stage 3 gained","Stage 3 lost","Stage 3 standing"
 "1","Ann","6.00000","6.00000","0.00000","elected","4.00000","0.00000","2.00000","elected","4.00000","0.00000","0.00000","elected"
@@ -16,7 +16,7 @@ const HARBOUR: &str =
 "","lost by fractions","0.00000","0.00000","0.00000","","0.00002","0.00002","0.00000","","0.00002","0.00000","0.00000",""
 "#;
 
-/// No stage has been counted, and the names begin with each of the bytes that start a formula.
+/// No stage has been counted, and each of the bytes that start a formula begins a name.
 const NAMES: &str = r#""candidate","name"
 "1","'+1"
 "2","'-1"
@@ -27,7 +27,7 @@ const NAMES: &str = r#""candidate","name"
 "","lost by fractions"
 "#;
 
-/// Prints the table of a ward with these candidates, and compares it.
+/// Prints the table of a ward with the given candidates, and compares it with the expected one.
 fn tabulates(
     rt: &(impl Abort + AllocGlobal),
     candidates: &[(u8, String)],
@@ -47,7 +47,7 @@ fn tabulates(
     Ok(())
 }
 
-/// Does the same for candidates with these numbers and names.
+/// Does the same as `tabulates` for candidates with the given numbers and names.
 fn tabulates_named(
     rt: &(impl Abort + AllocGlobal),
     named: &[(u8, &str)],

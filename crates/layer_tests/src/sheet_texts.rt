@@ -94,7 +94,7 @@ impl<'a> Printed for WardDeclaration<'a> {
     }
 }
 
-/// Returns the ward with these candidates and papers.
+/// Returns the ward with the given candidates and papers.
 fn harbour<'a>(candidates: &'a [(u8, String)], valid: u32, rejected: [u32; 5]) -> Ward<'a> {
     Ward {
         number: 7,

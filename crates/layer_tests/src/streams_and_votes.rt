@@ -46,8 +46,8 @@ impl Write for Full {
     }
 }
 
-/// A stream that fails at the first call and at every second call after it; in between, a write accepts all bytes, and a read
-/// returns one.
+/// A stream that fails on the first call and on every second call after it; in between, a write accepts all bytes, and
+/// a read returns one.
 #[derive(Drop)]
 struct TornStream {
     page: Vec<u8>,
@@ -88,7 +88,7 @@ fn text_of(alloc: Global, votes: Votes) -> Result<String, AllocError> {
     format!(in alloc; "{votes}")
 }
 
-/// Returns the bytes of a value's text that a sink in memory accepts.
+/// Returns the bytes of a value's text that an in-memory sink accepts.
 fn written(alloc: Global, votes: Votes) -> Result<Vec<u8>, Broken> {
     let mut page = Vec::new(alloc);
     votes.write(&mut Counted::new(&mut page))?;
@@ -117,7 +117,7 @@ fn values() -> [Votes; 6] {
     ]
 }
 
-/// Their texts.
+/// The texts of those values.
 const TEXTS: [&str; 6] = [
     "2499751.00000",
     "312469.00000",
@@ -137,8 +137,8 @@ fn values_and_their_text(rt: HostRuntime) -> Result<(), Fail> {
     Ok(())
 }
 
-/// Writes a value to a writer with this much room. Returns whether that was enough, the number of failures, and the accepted
-/// bytes.
+/// Writes a value to a writer with the given amount of room. Returns whether that was enough, the number of failures,
+/// and the accepted bytes.
 fn writes_narrowly(alloc: Global, room: usize) -> (bool, u64, Vec<u8>) {
     let mut narrow = Narrow {
         page: Vec::new(alloc),
@@ -151,7 +151,7 @@ fn writes_narrowly(alloc: Global, room: usize) -> (bool, u64, Vec<u8>) {
     (is_whole, failures, page)
 }
 
-/// Returns whether a prefix is accepted and one failure is counted, if there isn't room for the whole text.
+/// Returns whether a prefix is accepted and one failure counted if there isn't room for the whole text.
 fn keeps_a_beginning(alloc: Global, text: &[u8], room: usize) -> bool {
     let whole = room == text.len();
     let (is_whole, failures, page) = writes_narrowly(alloc, room);
@@ -168,7 +168,7 @@ fn a_sink_that_fails_keeps_a_beginning(rt: HostRuntime) {
     }
 }
 
-/// Returns how many of these bytes a sink accepts. The sink has failed at most a few times before.
+/// Returns how many of the given bytes a sink accepts. The sink has failed at most a few times before.
 fn put<S: Sink>(sink: &mut S, bytes: &[u8]) -> Option<usize> {
     if sink.failures() > 9 {
         return None;
@@ -184,18 +184,18 @@ fn fetch<S: Source>(source: &mut S, room: &mut [u8]) -> Option<usize> {
     source.fetch(room).ok()
 }
 
-/// Returns whether a sink accepts all of these bytes. The sink has failed at most a few times before.
+/// Returns whether a sink accepts all the given bytes. The sink has failed at most a few times before.
 fn takes_all<S: Sink>(sink: &mut S, bytes: &[u8]) -> bool {
     sink.failures() <= 9 && put_all(sink, bytes).is_ok()
 }
 
-/// Asserts that writing to a sink without room fails.
+/// Checks that writing to a sink without room fails.
 fn is_full<S: Sink>(rt: &impl Abort, sink: &mut S) {
     assert!(rt; takes_all(sink, b"") && sink.failures() == 0);
     assert!(rt; !takes_all(sink, b"x") && sink.failures() == 1);
 }
 
-/// Asserts that a source returns this number of bytes, and that the buffer then contains these.
+/// Checks that a source returns the given number of bytes, and what the buffer then contains.
 fn gives<S: Source>(
     rt: &impl Abort,
     source: &mut S,
@@ -208,7 +208,7 @@ fn gives<S: Source>(
     );
 }
 
-/// Asserts that a source of `ballot` returns it four bytes at a time.
+/// Checks that a source of the text `ballot` returns it four bytes at a time.
 fn gives_ballot<S: Source>(rt: &impl Abort, source: &mut S) {
     let mut room = [0; 4];
     gives(rt, source, &mut room, (4, b"ball"));
@@ -217,17 +217,17 @@ fn gives_ballot<S: Source>(rt: &impl Abort, source: &mut S) {
     assert_eq!(rt; source.failures(), 0);
 }
 
-/// Asserts how many bytes are accepted, or that the call fails if `taken` is `None`.
+/// Checks that `taken` bytes are accepted, or that the call fails if `taken` is `None`.
 fn puts<S: Sink>(rt: &impl Abort, sink: &mut S, bytes: &[u8], taken: Option<usize>) {
     assert!(rt; put(sink, bytes) == taken, "{taken:?} taken");
 }
 
-/// Asserts how many bytes are read, or that the call fails if `given` is `None`.
+/// Checks that `given` bytes are read, or that the call fails if `given` is `None`.
 fn fetches<S: Source>(rt: &impl Abort, source: &mut S, room: &mut [u8], given: Option<usize>) {
     assert!(rt; fetch(source, room) == given, "{given:?} given");
 }
 
-/// Asserts that a failure affects only the call in which it occurs.
+/// Checks that a failure affects only the call in which it occurs.
 fn fails_call_by_call<S: Sink + Source>(
     rt: &impl Abort,
     torn: &mut S,

@@ -1,4 +1,4 @@
-//! Requests that a browser sends for foreign pages, and requests that come through a proxy.
+//! Requests that a browser sends on behalf of foreign pages, and requests that arrive through a proxy.
 
 use super::wire_requests::{BODY, KEYED, NOTHING, asks, asks_of};
 use std::alloc::{AllocError, Global};
@@ -6,7 +6,7 @@ use std::process::Abort;
 use std::test::Fail;
 use wire::{HttpSettings, Origin};
 
-/// Headers that a browser sends for a foreign page, or if the office was reached under a foreign name.
+/// Headers that a browser sends on behalf of a foreign page, or if the office was reached under a foreign name.
 const FOREIGN: [&str; 35] = [
     "Origin: http://evil.example",
     "ORIGIN: http://evil.example",
@@ -45,7 +45,7 @@ const FOREIGN: [&str; 35] = [
     "Host: 127.0.0.1:8080\r\nOrigin: http://127.0.0.1:8080\r\nSec-Fetch-Site: cross-site",
 ];
 
-/// Headers that only programs and pages of this machine send.
+/// Headers that only programs and pages on this machine send.
 const OWN: [&str; 20] = [
     "X: y",
     "Origin: http://127.0.0.1",
@@ -69,7 +69,7 @@ const OWN: [&str; 20] = [
     "Host: 127.0.0.1:8080\r\nOrigin: http://127.0.0.1:8080\r\nSec-Fetch-Site: same-origin",
 ];
 
-/// The first line of a request, its length header, and what the request asks.
+/// The first line of a request, its length header, and what the request asks for.
 const CASES: [(&str, &str, &str); 6] = [
     (
         "POST /clerks/4/batches/12/keying",
@@ -95,12 +95,12 @@ const CASES: [(&str, &str, &str); 6] = [
     ("GET /nothing", "Transfer-Encoding: chunked", "NotFound"),
 ];
 
-/// Returns a request with this first line and these headers.
+/// Returns a request with the given first line and headers.
 fn request_of(alloc: Global, line: &str, first: &str, second: &str) -> Result<String, AllocError> {
     format!(in alloc; "{line} HTTP/1.1\r\n{first}\r\n{second}\r\n\r\n{BODY}")
 }
 
-/// Reads a request with these headers, in this order and in the opposite one.
+/// Reads a request with the given headers, both in this order and in reverse.
 fn asks_both(
     rt: &(impl Abort + AllocGlobal),
     given: HttpSettings<'_>,
@@ -114,8 +114,8 @@ fn asks_both(
     asks_of(rt, given, request.as_bytes(), asked)
 }
 
-/// Reads a request with these additional headers. It asks the same as without them, or it is rejected as foreign before any other
-/// reason is checked, no matter whether it sends a keying or reads.
+/// Reads a request with the given additional headers. Either it asks for the same thing as without them, or it is
+/// rejected as foreign before anything else is checked, whether it sends a keying or reads.
 fn asks_with(
     rt: &(impl Abort + AllocGlobal),
     given: HttpSettings<'_>,
@@ -129,7 +129,7 @@ fn asks_with(
     Ok(())
 }
 
-/// Headers; whether an office whose origin has a port accepts them, and whether one whose origin has none does.
+/// Headers, whether an office whose origin has a port accepts them, and whether one whose origin has no port does.
 const PROXIED: [(&str, bool, bool); 17] = [
     ("Origin: https://count.example.org:8443", true, false),
     ("Origin: https://count.example.org", false, false),
@@ -154,7 +154,7 @@ const PROXIED: [(&str, bool, bool); 17] = [
     ("Host: https://count.example.org", false, false),
 ];
 
-/// Returns the settings of an office behind a proxy with this origin.
+/// Returns the settings of an office behind a proxy with the given origin.
 fn through(origin: Option<Origin<'_>>) -> HttpSettings<'_> {
     HttpSettings {
         origin,
@@ -163,7 +163,7 @@ fn through(origin: Option<Origin<'_>>) -> HttpSettings<'_> {
     }
 }
 
-/// Asserts which headers are foreign, both for an office without an origin and for one with this origin.
+/// Checks which headers are foreign, both for an office without an origin and for one with the given origin.
 fn asks_each(
     rt: &(impl Abort + AllocGlobal),
     given: HttpSettings<'_>,
@@ -177,8 +177,8 @@ fn asks_each(
     Ok(())
 }
 
-/// Asserts which headers are foreign for an office without an origin, for one whose origin has a port, and for one whose origin
-/// has none.
+/// Checks which headers are foreign for an office without an origin, for one whose origin has a port, and for one whose
+/// origin has none.
 fn asks_proxied(
     rt: &(impl Abort + AllocGlobal),
     with_port: HttpSettings<'_>,

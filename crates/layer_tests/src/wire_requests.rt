@@ -1,4 +1,5 @@
-//! What HTTP requests ask, read from readers that return everything at once, that return one byte at a time, and that fail.
+//! What HTTP requests ask for, read from readers that return everything at once, that return one byte at a time, or
+//! that fail.
 
 ghost use Rattle.std.specs.Prelude.{◌-◌, ◌^◌, ◌<◌};
 
@@ -22,7 +23,7 @@ const MAX_HEADERS: usize = 32;
 
 const MAX_BODY_BYTES: u32 = 1_048_576;
 
-/// A reader that returns these bytes, one at a time; after them it ends, or fails.
+/// A reader that returns its bytes one at a time, and then ends or fails.
 #[derive(Drop)]
 struct Slow<'a> {
     left: &'a [u8],
@@ -85,7 +86,7 @@ fn order_words(alloc: Global, order: &ConsoleOrder) -> Result<String, AllocError
     Ok(text)
 }
 
-/// Returns what a request asks, or why it couldn't be read, in short form.
+/// Returns what a request asks for, or why it couldn't be read, in short form.
 fn words_of(alloc: Global, came: &Result<HttpRequest, ReadFailure>) -> Result<String, AllocError> {
     match came {
         Ok(HttpRequest::Keying(keying)) => keying_words(alloc, keying),
@@ -109,7 +110,7 @@ pub const NOTHING: HttpSettings<'static> = HttpSettings {
     public: None,
 };
 
-/// Returns what a request asks of an office with these settings, in short form.
+/// Returns what a request to an office with the given settings asks for, in short form.
 fn asked_text<R: Source>(
     alloc: Global,
     given: HttpSettings<'_>,
@@ -120,7 +121,7 @@ fn asked_text<R: Source>(
     words_of(alloc, &read_request(alloc, given, reader))
 }
 
-/// Asserts what a request from this reader asks.
+/// Checks what a request from the given reader asks for.
 fn asks_in<R: Source>(
     rt: &(impl Abort + AllocGlobal),
     given: HttpSettings<'_>,
@@ -134,7 +135,7 @@ fn asks_in<R: Source>(
     Ok(())
 }
 
-/// Asserts what a request asks when it is read at once, and when it is read one byte at a time.
+/// Checks what a request asks for, both when it is read at once and when it is read one byte at a time.
 pub fn asks_of(
     rt: &(impl Abort + AllocGlobal),
     given: HttpSettings<'_>,
@@ -149,12 +150,12 @@ pub fn asks_of(
     asks_in(rt, given, &mut Counted::new(slow), asked)
 }
 
-/// Does the same for an office without settings.
+/// Does the same as `asks_of` for an office without settings.
 pub fn asks(rt: &(impl Abort + AllocGlobal), request: &[u8], asked: &str) -> Result<(), Fail> {
     asks_of(rt, NOTHING, request, asked)
 }
 
-/// Returns a keying request with these headers and this body.
+/// Returns a keying request with the given headers and body.
 fn keying(alloc: Global, headers: &str, body: &str) -> Result<String, AllocError> {
     format!(in alloc; "POST /clerks/4/batches/12/keying HTTP/1.1\r\n{headers}\r\n{body}")
 }
@@ -162,7 +163,7 @@ fn keying(alloc: Global, headers: &str, body: &str) -> Result<String, AllocError
 /// The body of a keying.
 pub const BODY: &str = r#"{"id":"h1","round":1,"papers":["1,2,","D"]}"#;
 
-/// What a keying with this body asks.
+/// What a keying with the body `BODY` asks for.
 pub const KEYED: &str = "4 keys 12 round 1 as h1: [1,2,] [D]";
 
 /// First lines of requests, none followed by a valid length.
@@ -192,7 +193,7 @@ const TARGETS: [(&str, &str); 23] = [
     ("X", "BadRequest"),
 ];
 
-/// Headers of a keying whose body has 43 bytes.
+/// Headers for a keying whose body has 43 bytes.
 const LENGTHS: [(&str, &str); 14] = [
     ("Content-Length: 43\r\n", KEYED),
     ("cONTENT-lENGTH:\t0043 \r\nHost: x\r\n", KEYED),
@@ -219,7 +220,7 @@ const LENGTHS: [(&str, &str); 14] = [
     ),
 ];
 
-/// Bodies of a keying, whose header gives their length.
+/// Bodies for a keying whose header gives their length.
 const BODIES: [(&str, &str); 13] = [
     (
         r#" { "papers" : [] , "round" : 4294967295 , "id" : "" } "#,
@@ -279,7 +280,7 @@ fn targets_lengths_and_bodies(rt: HostRuntime) -> Result<(), Fail> {
     Ok(())
 }
 
-/// Returns a text followed by this many repetitions of another.
+/// Returns a text followed by the given number of repetitions of another.
 fn repeated(alloc: Global, text: &str, more: &str, times: usize) -> Result<String, AllocError> {
     let mut long = String::from_str(alloc, text)?;
     for _ in 0..times {
@@ -288,7 +289,7 @@ fn repeated(alloc: Global, text: &str, more: &str, times: usize) -> Result<Strin
     Ok(long)
 }
 
-/// Asserts what a request asks that consists of a text, this many repetitions of another, and an end.
+/// Checks what a request asks for if it consists of a text, the given number of repetitions of another, and an end.
 fn asks_long(
     rt: &(impl Abort + AllocGlobal),
     text: &str,
@@ -301,7 +302,7 @@ fn asks_long(
     asks(rt, request.as_bytes(), asked)
 }
 
-/// Asserts what a request asks whose head has this length and this end, and a single header.
+/// Checks what a request asks for if its head has the given length, the given end, and a single header.
 fn asks_long_head(
     rt: &(impl Abort + AllocGlobal),
     (length, end, asked): &(usize, &str, &str),
@@ -311,20 +312,20 @@ fn asks_long_head(
     asks_long(rt, begun, ("x", times), *end, *asked)
 }
 
-/// The length of a head, its end, and what it asks.
+/// The length of a head, its end, and what the request asks for.
 const LONG_HEADS: [(usize, &str, &str); 3] = [
     (MAX_HEAD_BYTES, "\r\n\r\n", "Sheet { ward: 7 }"),
     (MAX_HEAD_BYTES + 1, "\r\n\r\n", "BadRequest"),
     (MAX_HEAD_BYTES + 1, "xxxx", "BadRequest"),
 ];
 
-/// The number of headers, and what is asked with them.
+/// The number of headers, and what a request with them asks for.
 const MANY_HEADERS: [(usize, &str); 2] = [
     (MAX_HEADERS, "Sheet { ward: 7 }"),
     (MAX_HEADERS + 1, "BadRequest"),
 ];
 
-/// Asserts that a body of nested brackets is rejected.
+/// Checks that a body of nested brackets is rejected.
 fn asks_nested(rt: &(impl Abort + AllocGlobal)) -> Result<(), Fail> {
     let nested = repeated(rt.alloc(), "", "[", 200)?;
     asks_keying(rt, "Content-Length: 200\r\n", nested.as_str(), "BadRequest")
@@ -337,7 +338,8 @@ fn spaces(alloc: Global) -> Result<String, AllocError> {
     repeated(alloc, head.as_str(), " ", MAX_BODY_BYTES as usize)
 }
 
-/// Asserts that such a keying is rejected. It is read only at once: one byte at a time would take long.
+/// Checks that such a keying is rejected. It is read only in one piece; reading it one byte at a time would take too
+/// long.
 fn asks_spaces(rt: &(impl Abort + AllocGlobal)) -> Result<(), Fail> {
     let request = spaces(rt.alloc())?;
     let mut reader = Counted::new(request.as_bytes());
@@ -357,8 +359,8 @@ fn long_heads_and_bodies(rt: HostRuntime) -> Result<(), Fail> {
     asks_spaces(&rt)
 }
 
-/// Reads a request of which only these bytes arrive before the reader fails: unless the request is complete, nothing is asked,
-/// and one failure is counted.
+/// Reads a request when only the given bytes arrive before the reader fails. Unless the request is complete, nothing is
+/// asked for, and one failure is counted.
 fn breaks_off(rt: &(impl Abort + AllocGlobal), left: &[u8], is_whole: bool) -> Result<(), Fail> {
     let mut reader = Counted::new(Slow { left, fails: true });
     let wanted = if is_whole { KEYED } else { "broken" };

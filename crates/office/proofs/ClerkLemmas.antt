@@ -1,4 +1,4 @@
--- Of the answers to many requests, those to one clerk are the ones that this clerk's requests alone would get.
+-- Among the answers to many requests, a clerk's answers are the ones that this clerk's requests alone would get.
 use Rattle.std.proofs.Common.{◌≡◌, inl, inr, ℕ, zero, suc, Bool, true, false, cond, not, ◌==◌, List, [], ◌∷◌, map, filter, take, Result, Ok, Err, string_bytes, refl, sym, ap, ◌∙◌, subst}
 use Rattle.std.proofs.lemmas.Bool.{and_parts, eqb-true}
 use Rattle.std.specs.List.{zip}
@@ -25,13 +25,13 @@ told_alike s t (accepts change reply) = refl
 told_alike s t (keeps reply) = refl
 told_alike s t (refuses why) = refl
 
--- a clerk gets the answer that follows from just what the clerk can see
+-- a clerk gets the answer that follows from what the clerk can see, and from nothing else
 pub told_seen : (s : OfficeState) (actor : ℕ) (id : List ℕ) (command : Command) → is_office actor ≡ false → told_of (step s actor id command) ≡ told_of (step (seen_by actor s) actor id command)
 unfolding step
 told_seen s actor id command clerk =
     told_alike s (seen_by actor s) (ruling_at s actor id command) ∙ ap (λ (r : Ruling). told_of (outcome_at (seen_by actor s) r)) (sym (ruling_on_seen s actor id command clerk))
 
--- after a stop during a clerk's request, any other clerk sees the same as before
+-- after a stop during a clerk's request, any other clerk sees the same things as before
 pub leaves_unseen : (s : OfficeState) (actor : ℕ) (id : List ℕ) (command : Command) (other : ℕ) → is_office actor ≡ false → (actor == other) ≡ false
     → (r : Result Answer Fault) (closed : Bool) (st : State)
     → Handled s (step s actor id command) r closed st → LeavesState st (λ x. seen_by other x ≡ seen_by other s)
@@ -72,7 +72,7 @@ module _ (clerk : ℕ) where
           ∙ ap (λ ts. told_of (step_of (seen_by clerk s) r) ∷ ts) (later ∙ ap (λ (x : OfficeState). map told_of (outcomes x (own_requests clerk next))) alone)
       go false other = later ∙ ap (λ (x : OfficeState). map told_of (outcomes x (own_requests clerk next))) (unseen_by s r.actor (string_bytes r.id) good r.command clerk other)
 
-  -- a clerk's answers among those to the first requests
+  -- a clerk's answers among the answers to the first requests
   pub told_alone : (s : OfficeState) (rs : List Request) (n : ℕ) (given : List Answer) → IsState s → none_is_the_office rs ≡ true → map told given ≡ map told_of (outcomes s (take n rs))
       → map told (own_answers clerk rs given) ≡ map told_of (outcomes (seen_by clerk s) (own_requests clerk (take n rs)))
   told_alone s [] zero given is good same = refl

@@ -15,12 +15,12 @@ pub handled_ok : (s : OfficeState) (o x : Outcome) (a : Answer) (closed : Bool) 
 handled_ok s o x a closed st same tells is_open at =
     (tells ∙ ap told_of same, record { is_open = is_open; at = subst (λ (y : Outcome). IsAt (state_after s y) st) same at })
 
--- the content of an answer is that of the outcome
+-- an answer has the content of the outcome
 pub answer_told : (s : OfficeState) (o : Outcome) (r : Result Answer Fault) (closed : Bool) (st : State) → Handled s o r closed st → IfOk r (λ a. told a ≡ told_of o)
 answer_told s o (Ok a) closed st handled = handled.0
 answer_told s o (Err f) closed st handled = tt
 
--- a fault closed the office, and after a stop the state is the one before or the one that the outcome leads to
+-- a fault closed the office, and after a stop the state is either the previous one or the one that the outcome leads to
 pub handled_err : (s : OfficeState) (o x : Outcome) (f : Fault) (closed : Bool) (st : State) → x ≡ o → closed ≡ true → (f ≡ Memory) ⊎ (f ≡ Store) → (f ≡ Memory → is_accepted x ≡ true)
     → LeavesState st (λ y. (y ≡ s) ⊎ (y ≡ state_after s x)) → Handled s o (Err f) closed st
 handled_err s o x f closed st same is_closed cause inside leaves = inr (record {
@@ -30,7 +30,7 @@ handled_err s o x f closed st same is_closed cause inside leaves = inr (record {
   leaves = subst (λ (z : Outcome). LeavesState st (λ y. (y ≡ s) ⊎ (y ≡ state_after s z))) same leaves;
 })
 
--- a request that was accepted is kept in the state that it led to
+-- an accepted request is kept in the state that it led to
 kept_there : (s : OfficeState) (actor : ℕ) (id : List ℕ) (command : Command) (o : Outcome) → is_accepted o ≡ true → RepeatGetsSameReply actor id command o
     → step (state_after s o) actor id command ≡ kept (reply_of o)
 kept_there s actor id command (accepted next reply) h again = again []

@@ -1,4 +1,4 @@
--- The answer to a request for the page of all wards, given the overviews found.
+-- The answer to a request for the page listing all wards, given the overviews found.
 use Rattle.std.proofs.Common.{◌≡◌, inl, ℕ, Bool, false, List, map, Result, Ok, Err, IfOk, IfErr, OnOk, String, Vec, string_bytes, refl, sym, ap, ◌∙◌}
 use Rattle.std.specs.declared.alloc.Global.{Global}
 use Rattle.sqlite.specs.State.{State}
@@ -19,7 +19,7 @@ use Rattle.office.specs.Reads.{Read}
 abbrev views : Vec WardOverview Global → List WardView
 views wards = map ward_view wards.items
 
--- the reason why there are no overviews is the reason why there is no page; it isn't a refusal, since a request for overviews of all wards is never refused
+-- the reason why there are no overviews is the reason why there is no page; it isn't a refusal, since a request for the overviews of all wards is never refused
 pub index_stopped : (title : List ℕ) (s : OfficeState) (stop : ReadError) (closed : Bool) (st : State) → Read views s (wards_answer s) (Err stop) closed st
     → Read (string_bytes {Z = Global}) s (index_answer title s) (Err stop) closed st
 index_stopped title s (Refused why) closed st read = absurd (never read.0)

@@ -27,7 +27,7 @@ answers_done s rs answers all same =
     sym (list_all-map is_done told answers)
     ∙ ap (list_all is_done) (same ∙ ap (λ l. map told_of (outcomes s l)) (take_all (length answers) rs (omega (arith, all)))) ∙ all_done_where_accepted (outcomes s rs)
 
--- if one property of values implies another, a result with the one has the other
+-- if one property of values implies another, a result that has the first property also has the second
 pub ok_then : {X E : Type 0} {P Q : X → Type 0} (r : Result X E) → ((x : X) → P x → Q x) → IfOk r P → IfOk r Q
 ok_then (Ok x) follows p = follows x p
 ok_then (Err e) follows p = tt

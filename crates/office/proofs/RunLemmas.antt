@@ -17,7 +17,7 @@ outcomes_push : (s : OfficeState) (rs : List Request) (r : Request) → outcomes
 outcomes_push s [] r = refl
 outcomes_push s (x ∷ rs) r = ap (λ l. step_of s x ∷ l) (outcomes_push (after_one s x) rs r)
 
--- one more answer is given
+-- another answer is added
 pub answers_more : (s : OfficeState) (rs : List Request) (i : ℕ) (d : Request) (given : List Answer) (a : Answer) → i < length rs → map told given ≡ map told_of (outcomes s (take i rs))
     → told a ≡ told_of (step_of (after s (take i rs)) (get_or rs i d)) → map told (given ++ a ∷ []) ≡ map told_of (outcomes s (take (i + 1) rs))
 answers_more s rs i d given a within so_far last =
@@ -25,7 +25,7 @@ answers_more s rs i d given a within so_far last =
     ∙ sym (map-append told_of (outcomes s (take i rs)) (step_of (after s (take i rs)) (get_or rs i d) ∷ []))
     ∙ sym (ap (map told_of) (ap (outcomes s) (take_more rs i d within) ∙ outcomes_push s (take i rs) (get_or rs i d)))
 
--- the state after some of the requests is the state after the accepted ones of the whole list so far
+-- the state after some of the requests is the state after the accepted ones among all requests up to that point
 pub beginning : (earlier rs : List Request) (answered count : ℕ) → answered ≤ count → count ≤ answered + 1 → count ≤ length rs → (s : OfficeState)
     → s ≡ after (after empty_office earlier) (take count rs) → IsAfterBeginning earlier rs answered s
 beginning earlier rs answered count low high within s is = record {
@@ -36,17 +36,17 @@ beginning earlier rs answered count low high within s is = record {
   is = is ∙ sym (fold-append after_one empty_office earlier (take count rs)) ∙ sym (after-accepted_of empty_office (earlier ++ take count rs));
 }
 
--- if the office has the state after some of the requests, the guarantee holds after any stop
+-- if the office is in the state after some of the requests, the guarantee holds after any stop
 pub keeps_beginning : (earlier rs : List Request) (i : ℕ) (st : State) → i ≤ length rs → IsAt (after (after empty_office earlier) (take i rs)) st → LeavesState st (IsAfterBeginning earlier rs i)
 keeps_beginning earlier rs i st within at trees may =
     let it = at.leaves trees may in
     (it.0, beginning earlier rs i i (omega arith) (omega arith) within it.0 it.1, it.2)
 
--- the state after one more request
+-- the state after another request
 pub after_next : (s : OfficeState) (rs : List Request) (i : ℕ) (r : Request) → i < length rs → r ≡ get_or rs i r → after_one (after s (take i rs)) r ≡ after s (take (i + 1) rs)
 after_next s rs i r within is = ap (after_one (after s (take i rs))) is ∙ sym (after-more s rs i r within)
 
--- a fault at a request ends the list there
+-- a fault while handling a request ends the list there
 pub stops_after : (s : OfficeState) (rs : List Request) (i : ℕ) (r : Request) (f : Fault) (closed : Bool) (st : State) → i < length rs → r ≡ get_or rs i r
     → Handled (after s (take i rs)) (step_of (after s (take i rs)) r) (Err f) closed st → StopsAfter s rs i closed st f
 stops_after s rs i r f closed st within is handled = inr (record { request = r; next = take_more rs i r within ∙ ap (λ x. take i rs ++ x ∷ []) (sym is); handled = handled })

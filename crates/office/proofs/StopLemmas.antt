@@ -19,7 +19,7 @@ pub if_of_memory : {X : Type 0} (old new : State) (r : Result X ReadError) → I
 if_of_memory old new (Ok x) h = tt
 if_of_memory old new (Err stop) h = stops_of_memory old new stop h
 
--- such an order leaves the office in its state, open or closed
+-- an order that only reads leaves the office in its state, open or closed
 pub left_reading : (s : OfficeState) (closed : Bool) (old new : State) → OnlyReads old new → HasCleanDisk new → IsAt s old → IsReadAt s closed new
 left_reading s false old new reads clean at = inl (record { is_open = refl; at = is_at_read s old new reads clean at })
 left_reading s true old new reads clean at = let it = is_at_read s old new reads clean at in inr (refl, it.leaves)

@@ -1,4 +1,4 @@
--- The answer to a request for a text of a ward, given what was found for the ward.
+-- The answer to a request for one of a ward's texts, given what was found for the ward.
 use Rattle.std.proofs.Common.{◌≡◌, inl, inr, ℕ, Bool, true, false, Option, Some, None, option_map, Result, Ok, Err, IfOk, IfErr, OnOk, String, string_bytes, refl, sym, ap, subst, ◌∙◌}
 use Rattle.std.specs.declared.alloc.Global.{Global}
 use Rattle.std.proofs.lemmas.Bool.{cond-true, cond-false}
@@ -39,7 +39,7 @@ counted_found {R = R} s ward counted made so = by_ward (ward_at s ward) refl mad
     by_ward None none gone = absurd (cc)
     by_ward (Some w) there is = so w there (subst (IsCountedWard (election_of s w)) (sym (same_Some _ _ is.1)) is.2)
 
--- the texts of a ward that exists can be written
+-- the texts of an existing ward can be written
 pub textual_at : (s : OfficeState) (ward : ℕ) (w : WardEntry) → ((x : WardEntry) → ward_at s x.number ≡ Some x → IsTextual (election_of s x)) → ward_at s ward ≡ Some w → IsTextual (election_of s w)
 textual_at s ward w law there = law w (subst (λ (n : ℕ). ward_at s n ≡ Some w) (found_number (λ (x : WardEntry). x.number) s.wards ward w there) there)
 
@@ -48,7 +48,7 @@ textual_at s ward w law there = law w (subst (λ (n : ℕ). ward_at s n ≡ Some
 told_there : (text : WardText) (s : OfficeState) (ward : ℕ) (w : WardEntry) → is_ward_number ward ≡ true → ward_at s ward ≡ Some w → text_answer text s ward ≡ text_found text s (Some w)
 told_there text s ward w in_range there = cond-true (is_ward_number ward) _ _ in_range ∙ ap (text_found text s) there
 
--- if a read of an existing ward returns a text, or the reason why there is none, then that is the answer to a request for this text
+-- if a read of an existing ward returns a text, or the reason why there is none, then that is the answer to a request for that text
 pub text_read : (text : WardText) (Stands : ElectionEntry → Type 0) (s : OfficeState) (ward : ℕ) (w : WardEntry) (phase : Phase)
     (r : Result (String Global) ReadError) (before closed : Bool) (st : State)
     → is_ward_number ward ≡ true → ward_at s ward ≡ Some w → phase ≡ w.phase → Stands (election_of s w) → before ≡ false → IsAt s st

@@ -7,7 +7,7 @@ use Rattle.register.specs.StateConditions.{IsState}
 use Rattle.register.specs.Effects.{change_entry, with_change}
 use Rattle.register.specs.Tabulated.{IsTabulated}
 
--- from this state, an accepted decision leads to another state and adds everything that is counted there
+-- an accepted decision in the given state leads to another state and adds everything that is counted in it
 abbrev pub LeadsToState : OfficeState → Decision → Type 0
 LeadsToState s (Accepted change reply) = IsTabulated s change × IsState (with_change (change_entry change) s)
 LeadsToState s (Kept reply) = ⊤

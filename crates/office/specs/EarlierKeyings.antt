@@ -7,6 +7,6 @@ use Rattle.register.specs.Offices.{OfficeState}
 use Rattle.store.specs.EarlierKeyings.{KeyedRoundEntry, earlier_at}
 use Rattle.office.specs.Reads.{found_or}
 
--- what one of a batch's clerks keyed of it in the latest earlier round that the clerk keyed, if there is one; a batch that doesn't exist has no clerks
+-- what one of a batch's clerks keyed for it in the most recent earlier round that the clerk keyed, if there is one; a batch that doesn't exist has no clerks
 abbrev pub earlier_told : OfficeState → ℕ → ℕ → Result (Option KeyedRoundEntry) Reason
 earlier_told s clerk batch = if is_clerk clerk && is_batch_number batch then found_or NotItsClerk (earlier_at s clerk batch) else Err NumberOutOfRange

@@ -1,4 +1,4 @@
--- The page of all wards, for a state.
+-- The page listing all wards in a given state.
 use Rattle.std.specs.Prelude.{ℕ, Bool, false, nat_eq, List, map, Option, Some, None, Result, Ok}
 use Rattle.std.specs.List.{filter, list_any}
 use Rattle.sheet.specs.Index.{ListedEntry, index}
@@ -11,19 +11,19 @@ use Rattle.register.specs.Offices.{CandidateEntry, OfficeState}
 use Rattle.store.specs.Overviews.{WardView, ward_views}
 use Rattle.office.specs.Sheets.{candidate_shown}
 
--- the public standing of a ward in this phase
+-- the public standing of a ward in the given phase
 abbrev pub standing_in : Phase → WardStanding
 standing_in Nominations = standing.Nominations
 standing_in Keying = standing.Keying
 standing_in Sealed = standing.Sealed
 standing_in Declared = standing.Declared
 
--- whether those elected are known and the candidate is one of them
+-- whether the elected candidates are known and include the given candidate
 abbrev pub is_among_elected : Option (List ℕ) → CandidateEntry → Bool
 is_among_elected None c = false
 is_among_elected (Some elected) c = list_any (nat_eq c.number) elected
 
--- the entry of a ward in the list, with the numbers and names of those elected once the ward is declared
+-- a ward's entry in the list, with the numbers and names of the elected candidates once the ward is declared
 abbrev pub listed_shown : WardView → ListedEntry
 listed_shown v = record {
   number = v.ward.number;
@@ -33,7 +33,7 @@ listed_shown v = record {
   elected = map candidate_shown (filter (is_among_elected v.elected) v.candidates);
 }
 
--- the page of all wards in numerical order, with a title
+-- the page listing all wards in numerical order, with the given title
 abbrev pub index_of : List ℕ → OfficeState → List ℕ
 index_of title s = index title (map listed_shown (ward_views s))
 

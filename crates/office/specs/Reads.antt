@@ -22,11 +22,11 @@ abbrev pub found_or : {X : Type 0} → Reason → Option X → Result X Reason
 found_or why (Some x) = Ok x
 found_or why None = Err why
 
--- the result of reading the status of a ward
+-- the result of reading a ward's status
 abbrev pub status_answer : OfficeState → ℕ → Result StatusEntry Reason
 status_answer s ward = if is_ward_number ward then found_or NoSuchWard (status_at s ward) else Err NumberOutOfRange
 
--- the result of reading the next step in the election of a ward
+-- the result of reading the next step in a ward's election
 abbrev pub next_answer : OfficeState → ℕ → Result NextStepEntry Reason
 next_answer s ward = if is_ward_number ward then found_or NoSuchWard (next_at s ward) else Err NumberOutOfRange
 
@@ -34,11 +34,11 @@ next_answer s ward = if is_ward_number ward then found_or NoSuchWard (next_at s 
 abbrev pub columns_answer : OfficeState → ℕ → Result (List ℕ) Reason
 columns_answer s batch = if is_batch_number batch then found_or NoSuchBatch (columns_at s batch) else Err NumberOutOfRange
 
--- the result of reading the work of a clerk
+-- the result of reading a clerk's work
 abbrev pub work_answer : OfficeState → ℕ → Result (List WorkEntry) Reason
 work_answer s clerk = if is_clerk clerk then Ok (work_of s clerk) else Err NumberOutOfRange
 
--- the result of reading the papers of a batch, for one of its clerks; a batch that doesn't exist has no clerks
+-- the result when one of a batch's clerks reads its papers; a batch that doesn't exist has no clerks
 abbrev pub paper_answer : OfficeState → ℕ → ℕ → Result BallotPaperEntry Reason
 paper_answer s clerk batch = if is_clerk clerk && is_batch_number batch then found_or NotItsClerk (paper_at s clerk batch) else Err NumberOutOfRange
 
@@ -64,12 +64,12 @@ abbrev pub ReadFailsBy : State → State → ReadError → Type 0
 ReadFailsBy old new (Refused why) = ⊤
 ReadFailsBy old new (Failed f) = FailsBy old new f
 
--- any fault but a failed allocation closes the office
+-- any fault except a failed allocation closes the office
 abbrev pub ClosesAt : Bool → ReadError → Type 0
 ClosesAt closed (Refused why) = ⊤
 ClosesAt closed (Failed f) = (f ≡ Memory) ⊎ (closed ≡ true)
 
--- a refusal for this reason, or a failed allocation
+-- a refusal for the given reason, or a failed allocation
 abbrev pub FailsFor : Reason → ReadError → Type 0
 FailsFor reason (Refused why) = why ≡ reason
 FailsFor reason (Failed f) = f ≡ Memory

@@ -11,12 +11,12 @@ use Rattle.store.specs.StateTables.{LeavesState}
 use Rattle.office.specs.declared.answers.Answer.{Answer}
 use Rattle.office.specs.Answers.{told, told_of, IsOpenAt, Handled}
 
--- the machine's outcomes for these requests, each in the state that the requests before it lead to
+-- the machine's outcomes for the given requests, each in the state that the requests before it lead to
 abbrev pub outcomes : OfficeState → List Request → List Outcome
 outcomes s [] = []
 outcomes s (r ∷ rs) = step_of s r ∷ outcomes (after_one s r) rs
 
--- each of these requests is accepted in the state that the requests before it lead to
+-- each of the given requests is accepted in the state that the requests before it lead to
 abbrev pub are_accepted : OfficeState → List Request → Bool
 are_accepted s requests = list_all is_accepted (outcomes s requests)
 
@@ -38,23 +38,23 @@ pub record IsAfterBeginning (earlier requests : List Request) (answered : ℕ) (
   pub within : count ≤ length requests
   pub is : s ≡ after empty_office (accepted_of empty_office (earlier ++ take count requests))
 
--- The guarantee of the office. After a stop, the state is the one after the accepted requests in a prefix, which contains every earlier request, every answered one
--- of these, and at most one more.
+-- The guarantee of the office. After a stop, the state is the one after the accepted requests in a prefix, which contains every earlier request, every answered
+-- request of the list, and at most one more.
 abbrev pub Keeps : List Request → List Request → ℕ → State → Type 0
 Keeps earlier requests answered st = LeavesState st (IsAfterBeginning earlier requests answered)
 
--- the answers couldn't be allocated: no request was handled, and the office stays open in the state before
+-- the answers couldn't be allocated: no request was handled, and the office stays open in its previous state
 pub record FailedToAllocate (s : OfficeState) (answered : ℕ) (f : Fault) (closed : Bool) (st : State) : Type 0 where
   pub none : answered ≡ 0
   pub memory : f ≡ Memory
   pub open_at : IsOpenAt s closed st
 
--- the request after the answered ones met the fault, with the effect that such a fault has
+-- the request after the answered ones hit the fault, which had the effect specified for it
 pub record MetFault (s : OfficeState) (requests : List Request) (answered : ℕ) (f : Fault) (closed : Bool) (st : State) : Type 0 where
   pub request : Request
   pub next : take (answered + 1) requests ≡ take answered requests ++ request ∷ []
   pub handled : Handled (after s (take answered requests)) (step_of (after s (take answered requests)) request) (Err f) closed st
 
--- why a fault ended the list after this number of answers, and its effect
+-- why a fault ended the list after the given number of answers, and its effect
 abbrev pub StopsAfter : OfficeState → List Request → ℕ → Bool → State → Fault → Type 0
 StopsAfter s requests answered closed st f = FailedToAllocate s answered f closed st ⊎ MetFault s requests answered f closed st

@@ -1,4 +1,4 @@
--- The texts of a ward for the public, as functions of the state.
+-- A ward's public texts, as functions of the state.
 use Rattle.std.specs.Prelude.{◌≡◌, ◌≤◌, ◌⊎◌, ⊤, ℕ, Bool, false, true, if◌then◌else◌, List, [], map, length, reverse, Option, Some, None, Result, Ok, Err}
 use Rattle.std.specs.List.{list_all}
 use Rattle.votes.specs.Units.{max_seats, max_papers}
@@ -32,7 +32,7 @@ candidate_shown c = (c.number, c.name)
 abbrev pub poll_shown : ElectionEntry → Option Poll
 poll_shown e = if has_count e then Some (record { valid = length e.ballots.papers; rejected = e.ballots.rejected }) else None
 
--- what the texts show of an election, given this poll
+-- what the texts show of an election, given its poll
 abbrev pub shown_with : Option Poll → ElectionEntry → SheetEntry
 shown_with poll e =
     record { number = e.ward.number; name = e.ward.name; seats = e.ward.seats; candidates = map candidate_shown e.candidates; poll = poll }
@@ -49,8 +49,8 @@ is_numbered c = is_candidate_number c.number
 abbrev pub CanBeCounted : ElectionEntry → Type 0
 CanBeCounted e = has_count e ≡ true → IsContest (contest_of e)
 
--- An election whose texts can be written, as is the case for every ward of an office. The ward's number, its seats and the numbers of its candidates are in range,
--- and the candidate numbers are in ascending order. It has no more papers than a ward can have, and it can be counted.
+-- An election whose texts can be written; the election of every ward of an office is one. The ward's number, its seats and the numbers of its candidates are in
+-- range, and the candidate numbers are in ascending order. It has at most as many papers as a ward can have, and it can be counted.
 pub record IsTextual (e : ElectionEntry) : Type 0 where
   pub number : e.ward.number ≤ last_ward
   pub some_seats : 1 ≤ e.ward.seats
@@ -60,15 +60,15 @@ pub record IsTextual (e : ElectionEntry) : Type 0 where
   pub ascending : IsCandidateSet (map (λ c. c.number) e.candidates)
   pub counted : CanBeCounted e
 
--- the stage sheet: the stages that are done, in order
+-- the stage sheet: the stages done so far, in order
 abbrev pub sheet_of : ElectionEntry → List ℕ
 sheet_of e = sheet (election_shown e) (reverse (stages_of e))
 
--- the declaration: the candidates elected
+-- the declaration: the elected candidates
 abbrev pub declaration_of : ElectionEntry → List ℕ
 declaration_of e = declaration (election_shown e) (elected_of e)
 
--- the stages of a contested ward that are done, in order
+-- the stages done so far in a contested ward's count, in order
 abbrev pub stages_shown : ElectionEntry → List Stage
 stages_shown e = if has_count e then reverse (stages_of e) else []
 
@@ -80,7 +80,7 @@ bundles_shown e = if has_count e then bundled e.ballots.papers else []
 abbrev pub lots_shown : ElectionEntry → List (ℕ × ℕ)
 lots_shown e = if has_count e then e.lots else []
 
--- the ballots, in a file format that counting programs have in common
+-- the ballots, in a file format that counting programs share
 abbrev pub ballots_of : ElectionEntry → List ℕ
 ballots_of e = ballots (election_shown e) (bundles_shown e) (lots_shown e)
 
@@ -92,7 +92,7 @@ result_page_of title e = page (election_shown e) title (is_declared e.ward.phase
 abbrev pub table_of : ElectionEntry → List ℕ
 table_of e = spreadsheet (election_shown e) (stages_shown e)
 
--- whether the text may be printed in this phase of the ward
+-- whether the text may be printed in the given phase of the ward
 abbrev pub is_printable_in : WardText → Phase → Bool
 is_printable_in Sheet phase = is_counted phase
 is_printable_in Declaration phase = is_declared phase
@@ -113,7 +113,8 @@ abbrev pub text_found : WardText → OfficeState → Option WardEntry → Result
 text_found text s None = Err NoSuchWard
 text_found text s (Some w) = if is_printable_in text w.phase then Ok (text_shown text (election_of s w)) else Err WrongPhase
 
--- the answer to a request for a text of the ward with this number: the declaration is available once the ward is declared, any other text once it is sealed
+-- the answer to a request for one of the texts of the ward with the given number: the declaration is available once the ward is declared, any other text once it is
+-- sealed
 abbrev pub text_answer : WardText → OfficeState → ℕ → Result (List ℕ) Reason
 text_answer text s ward = if is_ward_number ward then text_found text s (ward_at s ward) else Err NumberOutOfRange
 
@@ -122,12 +123,13 @@ abbrev pub FailsToWrite : Bool → ReadError → Type 0
 FailsToWrite closed (Refused why) = ⊥
 FailsToWrite closed (Failed f) = ((f ≡ Memory) × (closed ≡ false)) ⊎ ((f ≡ Store) × (closed ≡ true))
 
--- why there is no text of a ward in this phase: it may not be printed in it; or an allocation failed, and the office stays open; or a fault closed the office
+-- why there is no text of a ward in the given phase: it may not be printed in that phase; or an allocation failed, and the office stays open; or a fault closed the
+-- office
 abbrev pub FailsToPrint : WardText → Phase → Bool → ReadError → Type 0
 FailsToPrint text phase closed (Refused why) = (why ≡ WrongPhase) × (is_printable_in text phase ≡ false) × (closed ≡ false)
 FailsToPrint text phase closed (Failed f) = FailsToWrite closed (Failed f)
 
--- if it is a fault, it can only be a failed allocation
+-- if the reason is a fault, it can only be a failed allocation
 abbrev pub IsOfMemory : ReadError → Type 0
 IsOfMemory (Refused why) = ⊤
 IsOfMemory (Failed f) = f ≡ Memory

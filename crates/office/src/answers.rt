@@ -9,9 +9,9 @@ use store::Fault;
 /// The answer to a request.
 #[derive(Drop)]
 pub enum Answer {
-    /// It was accepted just now and is stored: stopping the program doesn't undo it.
+    /// The request was accepted just now and is stored: stopping the program doesn't undo it.
     Done(Reply),
-    /// It was accepted earlier under the same id. This is the original reply.
+    /// The request was accepted earlier under the same id. This is the original reply.
     Kept(Reply),
     /// Nothing changed, for this reason.
     Refused(Refusal),

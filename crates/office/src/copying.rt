@@ -17,7 +17,7 @@ use std::alloc::Global;
 use store::{CopyFault, Fault, OfficeCounts};
 
 impl<S: Alter> Office<S> {
-    /// Copies the office in a connection's database into the database of another connection, which must be empty, in
+    /// Copies the office in a connection's database into the database on another connection, which must be empty, in
     /// one transaction. Returns how much the copy contains. Opening the copy yields exactly the state of the office,
     /// including every receipt. No office is open afterwards.
     ///
@@ -35,13 +35,13 @@ impl<S: Alter> Office<S> {
         store::copy(alloc, conn, copy)
     }
 
-    /// Copies this office, which stays open, into the database of another connection, which must be empty, in one
+    /// Copies this office, which stays open, into the database on another connection, which must be empty, in one
     /// transaction. Returns how much the copy contains. Opening the copy yields exactly the state of the office,
     /// including every receipt.
     ///
-    /// `Office` gives the reason why the office couldn't be read: an allocation or the store failed. Nothing is copied
-    /// then, and unless the fault is `Memory`, it closes the office. `Taken` and `Copy` have the same meaning as for
-    /// `copy`. A closed office returns `Closed`.
+    /// `Office` gives the reason why the office couldn't be read: an allocation or the store failed. In that case
+    /// nothing is copied, and any fault except `Memory` closes the office. `Taken` and `Copy` have the same meaning as
+    /// for `copy`. A closed office returns `Closed`.
     pub fn copy_open<T: Alter>(
         &mut self,
         copy: &mut Connection<T>,

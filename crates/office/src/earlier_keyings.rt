@@ -19,11 +19,11 @@ use sqlite::Alter;
 use store::{Fault, KeyedRound};
 
 impl<S: Alter> Office<S> {
-    /// Returns a clerk's own keying of a batch in the latest round before the current one that the clerk keyed: the
-    /// round, and the papers in order. Returns `None` if the clerk keyed no earlier round.
+    /// Returns a clerk's own keying of a batch in the most recent round that the clerk keyed before the current one:
+    /// the round, and the papers in order. Returns `None` if the clerk didn't key any earlier round.
     ///
     /// The result depends only on what the clerk can see of the state, regardless of what others keyed. The read is
-    /// refused if a number is out of range, or if the clerk isn't one of the clerks of such a batch. Nothing is
+    /// refused if a number is out of range, there is no such batch, or the clerk isn't one of its clerks. Nothing is
     /// changed. After `Memory` the office stays open; any other fault closes it. A closed office returns `Closed`.
     pub fn earlier_keying(
         &mut self,

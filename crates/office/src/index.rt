@@ -1,4 +1,4 @@
-//! The page of all wards, generated from their overviews.
+//! The page listing all wards, generated from their overviews.
 #![tactic(auto, using(crate::proofs::StopLemmas::stops_of_memory))]
 
 ghost use Rattle.std.specs.Prelude.{◌≡◌, false, true, nat_eq, map, IfOk, IfErr, OnOk, Err, string_bytes};
@@ -22,7 +22,7 @@ use sqlite::Alter;
 use std::alloc::{AllocError, Global};
 use store::{Fault, WardOverview};
 
-/// Returns the public standing of a ward in this phase.
+/// Returns the public standing of a ward in the given phase.
 fn standing_in(phase: Phase) -> WardStanding
     ensures { result ≡ standing_in phase }
 {
@@ -41,14 +41,14 @@ fn has_number(number: u32, column: u8) -> bool
     number == u32::from(column)
 }
 
-/// Returns true if the number of a candidate is among these columns.
+/// Returns true if the number of a candidate is among the given columns.
 fn is_among(columns: &[u8], number: u32) -> bool
     ensures { result ≡ list_any (nat_eq number) columns.now }
 {
     columns.iter().any(|column| has_number(number, *column))
 }
 
-/// Returns true if the elected candidates are known and this candidate is one of them.
+/// Returns true if the elected candidates are known and the given candidate is one of them.
 fn is_elected(elected: &Option<Columns>, candidate: &Candidate) -> bool
     ensures { result ≡ is_among_elected elected.now (candidate_entry candidate.now) }
 {
@@ -58,7 +58,7 @@ fn is_elected(elected: &Option<Columns>, candidate: &Candidate) -> bool
     }
 }
 
-/// Returns the number and name of each of these candidates who is elected.
+/// Returns the number and name of each elected candidate among the given ones.
 fn elected_names(
     alloc: Global,
     elected: &Option<Columns>,
@@ -75,7 +75,7 @@ fn elected_names(
     Ok(names)
 }
 
-/// Returns the entry of a ward in the list.
+/// Returns the list entry of a ward.
 fn listed_of(alloc: Global, overview: &WardOverview) -> Result<ListedWard, AllocError>
     ensures { IfOk result (λ ward. listed ward ≡ listed_shown (ward_view overview.now)) }
 {
@@ -88,7 +88,7 @@ fn listed_of(alloc: Global, overview: &WardOverview) -> Result<ListedWard, Alloc
     })
 }
 
-/// Returns the entries of all wards in the list.
+/// Returns the list entries of all wards.
 fn all_listed(alloc: Global, overviews: &[WardOverview]) -> Result<Vec<ListedWard>, AllocError>
     ensures { IfOk result (λ wards. map listed wards.items ≡ map listed_shown (map ward_view overviews.now)) }
 {
@@ -99,7 +99,7 @@ fn all_listed(alloc: Global, overviews: &[WardOverview]) -> Result<Vec<ListedWar
     Ok(wards)
 }
 
-/// Returns the page of all wards for these overviews.
+/// Returns the page listing all wards, given their overviews.
 fn index_over(alloc: Global, title: &str, overviews: &[WardOverview]) -> Result<String, AllocError>
     ensures { IfOk result (λ text. string_bytes text ≡ index title.now (map listed_shown (map ward_view overviews.now))) }
 {
@@ -108,8 +108,8 @@ fn index_over(alloc: Global, title: &str, overviews: &[WardOverview]) -> Result<
 }
 
 impl<S: Alter> Office<S> {
-    /// Returns the page of all wards for these overviews. Fails only if an allocation fails, which leaves the office
-    /// open.
+    /// Returns the page listing all wards, given their overviews. Fails only if an allocation fails, which leaves the
+    /// office open.
     fn index_of(&mut self, title: &str, overviews: &[WardOverview]) -> Result<String, ReadError>
         ensures told { IfOk result (λ text. string_bytes text ≡ index title.now (map listed_shown (map ward_view overviews.now))) }
         ensures stopped { IfErr result (λ stop. (stop ≡ ReadError.Fault Fault.Memory) × (self.new.closed ≡ false)) }
@@ -122,8 +122,8 @@ impl<S: Alter> Office<S> {
         }
     }
 
-    /// Returns the page of all wards, for posting in public. It shows the standing of each ward and, once the ward is
-    /// declared, who is elected. An empty title is left out.
+    /// Returns the page listing all wards, to be displayed in public. It shows the standing of each ward and, once the
+    /// ward is declared, who is elected. An empty title is left out.
     ///
     /// Nothing is changed. After `Memory` the office stays open; any other fault closes it. A closed office returns
     /// `Closed`.

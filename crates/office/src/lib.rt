@@ -3,13 +3,13 @@
 //! `Office` is an office in any `sqlite` store. `create` creates an empty office, and `open_from` opens an existing
 //! one. `migrate` brings an office created by an earlier version of the program up to this version, `copy` copies an
 //! office into another database, and `rows` reads all entries of an office. `copy_open` and `rows_open` do the same for
-//! an open office, which stays open. `leads_to` returns whether requests lead from an empty office to given entries.
-//! `handle` answers one request, and `run` a list of requests. `status`, `next_step`, `columns`, `work`, `paper`,
-//! `earlier_keying`, `sheet`, `result`, `text` and `index` read the state and change nothing. So do `wards`, `batches`,
-//! `doubtful`, `differences`, `papers` and `receipts`, which are for the office alone. `differs_from_stored` returns
-//! whether the stored content of a repeated request differs from the request. A fault inside a transaction closes the
-//! office. It then returns fault 104 until it is reopened, either in the state before the request or in the one after
-//! it.
+//! an open office, which stays open. `leads_to` returns whether requests lead from an empty office to the given
+//! entries. `handle` answers one request, and `run` a list of requests. `status`, `next_step`, `columns`, `work`,
+//! `paper`, `earlier_keying`, `sheet`, `result`, `text` and `index` read the state and change nothing. So do `wards`,
+//! `batches`, `doubtful`, `differences`, `papers` and `receipts`, which are for the office alone. `differs_from_stored`
+//! returns whether the stored content of a repeated request differs from the request. A fault inside a transaction
+//! closes the office. It then returns fault 104 until it is reopened, either in the state before the request or in the
+//! one after it.
 //!
 //! ```text
 //! let mut office = Office::open_from(alloc, conn)?;

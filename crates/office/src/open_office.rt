@@ -80,7 +80,7 @@ impl<S: Alter> Office<S> {
     ///
     /// Fails with `WrongDatabase` if there is no office table or the table has no row. Fails with `NewerSchema` if the
     /// office was created by a later version of the program, and with `OlderSchema` if it was created by an earlier
-    /// one. Fails with `Damaged` if the rows are not the tables of any state. Fails with `Store` if the store failed,
+    /// one. Fails with `Damaged` if no state has these rows. Fails with `Store` if the store failed,
     /// if rowids aren't distinct integers, or if the connection is inside a transaction. The connection is returned
     /// along with the fault, with its database unchanged.
     pub fn open_from(alloc: Global, conn: Connection<S>) -> Result<Self, (Fault, Connection<S>)>
@@ -118,7 +118,7 @@ impl<S: Alter> Office<S> {
         self.closed
     }
 
-    /// Consumes the office, whether open or closed, and returns its connection unchanged.
+    /// Consumes the office, whether it is open or closed, and returns its connection unchanged.
     pub fn into_connection(self) -> Connection<S>
         ensures { result ≡ self.held }
     {

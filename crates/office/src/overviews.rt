@@ -1,5 +1,5 @@
-//! Overviews for the office alone: the wards, the batches of a ward and their doubtful papers, the differences between
-//! the keyings of a batch, how each paper of a batch counts, and the receipts. No read changes the state.
+//! Overviews for the office alone: the wards, a ward's batches and their doubtful papers, the differences between
+//! a batch's keyings, how each paper in a batch counts, and the receipts. No read changes the state.
 #![tactic(auto, using(crate::proofs::StopLemmas::stops_of_memory))]
 
 ghost use Rattle.std.specs.Prelude.{◌≡◌, true, map, IfErr, Err};
@@ -22,7 +22,8 @@ use store::{BatchOverview, CountedPapers, Differences, DoubtfulPapers, Fault, Wa
 /// The office itself as an actor.
 const OFFICE: u32 = 0;
 
-/// Returns true if this actor may have receipts, that is, if it is the office or a clerk. `None` stands for all actors.
+/// Returns true if the given actor may have receipts, that is, if it is the office or a clerk. `None` stands for all
+/// actors.
 fn may_have_receipts(actor: Option<u32>) -> bool
     ensures { result ≡ may_have_receipts actor }
 {
@@ -48,7 +49,7 @@ impl<S: Alter> Office<S> {
         read!(self, true => load_wards())
     }
 
-    /// Returns the overviews of the batches of a ward in numerical order.
+    /// Returns the overviews of a ward's batches in numerical order.
     ///
     /// Refused if the ward number is outside 1 to 99 or there is no such ward. Nothing is changed. After `Memory` the
     /// office stays open; any other fault closes it. A closed office returns `Closed`.
@@ -62,8 +63,8 @@ impl<S: Alter> Office<S> {
         read!(self, is_ward_number(ward) => load_batches(ward), Reason::NoSuchWard)
     }
 
-    /// Returns the doubtful papers in the batches of a ward that are taken, ordered by batch and paper, and the
-    /// candidates of the ward. Each paper is returned with how it counts and the verdict on it, if there is one.
+    /// Returns the doubtful papers in the taken batches of a ward, ordered by batch and paper, and the ward's
+    /// candidates. Each paper is returned with how it counts and the verdict on it, if there is one.
     ///
     /// Refused if the ward number is outside 1 to 99 or there is no such ward. Nothing is changed. After `Memory` the
     /// office stays open; any other fault closes it. A closed office returns `Closed`.
@@ -99,8 +100,8 @@ impl<S: Alter> Office<S> {
         }
     }
 
-    /// Returns the papers of a batch that is taken, in numerical order, each with how it counts, and the candidates of
-    /// its ward.
+    /// Returns the papers in a batch that is taken, in numerical order, each with how it counts, and its ward's
+    /// candidates.
     ///
     /// Refused if the batch number is outside 1 to 9999, there is no such batch, or the batch isn't taken. Nothing is
     /// changed. After `Memory` the office stays open; any other fault closes it. A closed office returns `Closed`.
@@ -122,7 +123,7 @@ impl<S: Alter> Office<S> {
         }
     }
 
-    /// Returns the receipts of an actor, 0 for the office itself or the number of a clerk, or those of all actors if
+    /// Returns an actor's receipts, 0 for the office itself or the number of a clerk, or those of all actors if
     /// `actor` is `None`. They are ordered by actor and id.
     ///
     /// Refused if the number is above 999. Nothing is changed. After `Memory` the office stays open; any other fault

@@ -27,9 +27,9 @@ use sqlite::Alter;
 use std::alloc::{AllocError, Global};
 use store::Fault;
 
-/// Reads from the store if the office is open and the number is in range, and otherwise returns the reason why not.
-/// Returns what was found, or the value computed from it. If the store has nothing under this number, returns the given
-/// reason.
+/// Reads from the store if the office is open and the number is in range, and otherwise returns the reason why it
+/// can't. Returns what was found, or the value computed from it. If the store has nothing under this number, returns
+/// the given reason.
 macro_rules! read {
     ($office:ident, $is_in_range:expr => $load:ident($($number:ident)?)) => {{
         if let Some(stop) = $office.stop_before($is_in_range) {
@@ -99,7 +99,7 @@ impl<S: Alter> Office<S> {
         ReadError::Fault(fault)
     }
 
-    /// Returns the status of a ward.
+    /// Returns a ward's status.
     ///
     /// Refused if the ward number is outside 1 to 99 or there is no such ward. Nothing is changed. After `Memory` the
     /// office stays open; any other fault closes it. A closed office returns `Closed`.
@@ -113,7 +113,7 @@ impl<S: Alter> Office<S> {
         read!(self, is_ward_number(ward) => load_status(ward), Reason::NoSuchWard)
     }
 
-    /// Returns the next step in the election of a ward, along with the ward's candidates once it is being counted.
+    /// Returns the next step in a ward's election, along with the ward's candidates once it is being counted.
     ///
     /// Refused if the ward number is outside 1 to 99 or there is no such ward. Nothing is changed. After `Memory` the
     /// office stays open; any other fault closes it. A closed office returns `Closed`.
@@ -127,7 +127,7 @@ impl<S: Alter> Office<S> {
         read!(self, is_ward_number(ward) => load_next(ward), Reason::NoSuchWard)
     }
 
-    /// Returns the columns of the papers of a batch: the numbers of its ward's candidates, in ascending order.
+    /// Returns the columns of a batch's papers: the numbers of its ward's candidates, in ascending order.
     ///
     /// Refused if the batch number is outside 1 to 9999 or there is no such batch. Nothing is changed. After `Memory`
     /// the office stays open; any other fault closes it. A closed office returns `Closed`.
@@ -141,7 +141,7 @@ impl<S: Alter> Office<S> {
         read!(self, is_batch_number(batch) => load_columns(batch), Reason::NoSuchBatch)
     }
 
-    /// Returns the work of a clerk: the clerk's batches in wards that are being keyed, in numerical order. Each entry
+    /// Returns a clerk's work: the clerk's batches in wards that are being keyed, in numerical order. Each entry
     /// gives the batch's ward, the columns and the number of its papers, its current round, and whether the clerk has
     /// keyed that round.
     ///
@@ -161,8 +161,8 @@ impl<S: Alter> Office<S> {
 
     /// Returns the text of the ballot papers of a batch for one of its clerks: the ward, and the candidates in it.
     ///
-    /// The result depends only on what the clerk can see of the state. Refused if a number is out of range, or if the
-    /// clerk isn't one of the clerks of such a batch. Nothing is changed. After `Memory` the office stays open; any
+    /// The result depends only on what the clerk can see of the state. Refused if a number is out of range, there is no
+    /// such batch, or the clerk isn't one of its clerks. Nothing is changed. After `Memory` the office stays open; any
     /// other fault closes it. A closed office returns `Closed`.
     pub fn paper(&mut self, clerk: u32, batch: u32) -> Result<BallotPaper, ReadError>
         ensures reads { ReadWhenOpen (state S.Store) self.old self.new paper_entry (λ s. paper_answer s clerk batch) result }
@@ -176,7 +176,7 @@ impl<S: Alter> Office<S> {
     }
 
     /// Returns whether the stored content of a repeated request differs from the request. A receipt contains only the
-    /// id and the subject of its request, so such a request gets the same reply whatever else it contains.
+    /// id and the subject of its request, so a repeated request gets the same reply whatever else it contains.
     ///
     /// Never refused. Nothing is changed. After `Memory` the office stays open; any other fault closes it. A closed
     /// office returns `Closed`.
@@ -190,7 +190,7 @@ impl<S: Alter> Office<S> {
         read!(self, true => load_differs_from_stored(request))
     }
 
-    /// Returns the stage sheet of a ward: its papers and the stages that are done, but no later ones. For an
+    /// Returns a ward's stage sheet: its papers and the stages done so far, but no later ones. For an
     /// uncontested ward it shows the seats.
     ///
     /// Refused if the ward number is outside 1 to 99, there is no such ward, or the ward isn't sealed yet. Nothing is
@@ -205,8 +205,8 @@ impl<S: Alter> Office<S> {
         self.text(ward, WardText::Sheet)
     }
 
-    /// Returns a text of a ward, generated from the contents of its stage sheet: its papers and the stages that are
-    /// done, but no later ones. For an uncontested ward, the ballots contain its seats and candidates.
+    /// Returns one of a ward's texts, generated from the contents of its stage sheet: its papers and the stages done so
+    /// far, but no later ones. For an uncontested ward, the ballots contain its seats and candidates.
     ///
     /// Refused if the ward number is outside 1 to 99, there is no such ward, or the text isn't available yet: the
     /// declaration is available once the ward is declared, and any other text once it is sealed. Nothing is changed.
@@ -222,7 +222,7 @@ impl<S: Alter> Office<S> {
         read!(self, is_ward_number(ward) => load_sheet(ward), Reason::NoSuchWard, sheet => self.read_text(&sheet, text))
     }
 
-    /// Returns the declaration of a ward: the candidates elected.
+    /// Returns a ward's declaration: the elected candidates.
     ///
     /// Refused if the ward number is outside 1 to 99, there is no such ward, or the ward isn't declared yet. Nothing is
     /// changed. After `Memory` the office stays open; any other fault closes it. A closed office returns `Closed`.
@@ -272,7 +272,7 @@ impl<S: Alter> Office<S> {
         self.told(written)
     }
 
-    /// Returns the declaration of a ward that was read, under the same conditions.
+    /// Returns the declaration of a ward that was read, under the same conditions as `read_text`.
     fn declaration_of(&mut self, counted: &CountedWard) -> Result<String, ReadError>
         ensures told { IfOk result (λ text. (is_printable_in WardText.Declaration counted.now.ward.phase ≡ true)
             × ((e : ElectionEntry) → IsCountedWard e counted.now → string_bytes text ≡ text_shown WardText.Declaration e)) }

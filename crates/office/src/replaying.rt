@@ -22,7 +22,7 @@ use sqlite::{Alter, Connection};
 use std::alloc::Global;
 use store::{Fault, read_office};
 
-/// Returns the reason why a call failed on a database that was empty at first: an allocation or the store failed.
+/// Returns the reason why a call failed on an initially empty database: an allocation or the store failed.
 fn trial_fault(fault: Fault) -> Fault
     ensures memory { fault ≡ Fault.Memory → result ≡ Fault.Memory }
     ensures other { ¬ (fault ≡ Fault.Memory) → result ≡ Fault.Store }
@@ -41,14 +41,14 @@ fn is_done(answer: &Answer) -> bool
     matches!(answer, Answer::Done(_))
 }
 
-/// Returns true if all answers do.
+/// Returns true if every answer belongs to a request that was accepted just now.
 fn are_done(answers: &[Answer]) -> bool
     ensures { result ≡ list_all (λ answer. is_done (told answer)) answers.now }
 {
     answers.iter().all(|answer| is_done(answer))
 }
 
-/// Returns whether the office in a connection's database has these entries. Fails with `Memory` or `Store` if the
+/// Returns whether the office in a connection's database has the given entries. Fails with `Memory` or `Store` if the
 /// office can't be read.
 fn has_rows<S: Alter>(alloc: Global, conn: &mut Connection<S>, rows: &Rows) -> Result<bool, Fault>
     ensures same { HasCleanDisk (state S.Store conn.new) → (s : OfficeState) → IsAt s (state S.Store conn.old) → IfOk result (λ has. has ≡ true → s ≡ state_of rows.now) }
@@ -115,10 +115,10 @@ impl<S: Alter> Office<S> {
         }
     }
 
-    /// Replays requests in an empty office, and returns whether they lead to the office with these rows: each request
-    /// is accepted, and at the end the entries are the same, including the receipts. The empty office is created in a
-    /// connection's database, and the clauses guarantee the result if that database was empty. The connection is
-    /// returned along with whatever the trial left in its database.
+    /// Replays requests in an empty office, and returns whether they lead to the office with the given rows: each
+    /// request is accepted, and at the end the entries are the same, including the receipts. The empty office is
+    /// created in a connection's database, and the clauses guarantee the result if that database was empty. The
+    /// connection is returned along with whatever the trial left in its database.
     ///
     /// Fails with `Memory` or `Store` if the trial couldn't be completed because an allocation or the trial's store
     /// failed. Nothing guarantees which of the two is reported. The rows are passed as an argument, so no other

@@ -1,4 +1,4 @@
-//! The texts of a ward for the public, generated from its election.
+//! A ward's public texts, generated from its election.
 
 ghost use Rattle.std.specs.Prelude.{◌≡◌, [], true, map, Some, IfOk, IfSome, IsSome, string_bytes};
 ghost use Rattle.std.specs.List.{list_all};
@@ -22,7 +22,7 @@ use sheet::{
 use std::alloc::{AllocError, Global};
 use store::elected_in;
 
-/// Provides callers with the law of an office's texts: in any state of an office, the texts of every ward can be
+/// Provides callers with the law about an office's texts: in any state of an office, the texts of every ward can be
 /// written.
 pub fn texts_are_there()
     ensures { (s : OfficeState) (w : WardEntry) → IsState s → ward_at s w.number ≡ Some w → IsTextual (election_of s w) }
@@ -47,7 +47,7 @@ pub enum WardText<'a> {
 }
 
 impl<'a> WardText<'a> {
-    /// Returns true if the text may be printed in a phase.
+    /// Returns true if the text may be printed in the given phase.
     pub(crate) fn is_printable_in(self, phase: Phase) -> bool
         ensures is { result ≡ is_printable_in self.entry phase }
         ensures counted { result ≡ true → is_counted phase ≡ true }
@@ -104,7 +104,7 @@ fn poll_of(sheet: &WardSheet) -> Option<Poll>
     }
 }
 
-/// Returns a counted ward as the texts show it, with these lines for its candidates and this poll. Returns `None` if a
+/// Returns a counted ward as the texts show it, with the given candidate lines and poll. Returns `None` if a
 /// number is out of range and the ward therefore can't be printed. No ward of an office has such a number.
 fn ward_of<'a>(
     counted: &'a CountedWard,
@@ -136,7 +136,7 @@ fn ward_of<'a>(
     Some(ward)
 }
 
-/// Returns the stages of a ward's count that are done; an uncontested ward has none.
+/// Returns the stages done so far in a ward's count; an uncontested ward has none.
 fn stages_of(counted: &CountedWard) -> &[Stage]
     ensures { (e : ElectionEntry) → IsCountedWard e counted.now → is_counted e.ward.phase ≡ true → result.now ≡ stages_shown e }
 {
@@ -201,7 +201,7 @@ fn write_text(
     }
 }
 
-/// Returns a text of a ward, generated from the stages that are done. Returns `None` if the text can't be written,
+/// Returns one of a ward's texts, generated from the stages done so far. Returns `None` if the text can't be written,
 /// which never happens for an office. Fails with `AllocError` if an allocation fails.
 pub(crate) fn text_of(
     alloc: Global,
@@ -221,7 +221,7 @@ pub(crate) fn text_of(
     Ok(Some(write_text(alloc, counted, &ward, text)?))
 }
 
-/// Returns the declaration of a ward, generated from the elected candidates, under the same conditions.
+/// Returns a ward's declaration, generated from the elected candidates, under the same conditions as `text_of`.
 pub(crate) fn declaration(
     alloc: Global,
     counted: &CountedWard,

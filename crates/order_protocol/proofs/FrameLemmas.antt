@@ -33,7 +33,7 @@ head_heard st kind own whole lt =
     ap (λ (p : DecoderState). fold decode (decode_at p st.output st.error kind) (string own)) whole in
     on ∙ ap (λ (n : ℕ). fold decode (record { place = behind_length kind n; output = st.output; error = st.error }) own) (heard_length (length own) lt)
 
--- complete frames are followed by one more
+-- complete frames are followed by another one
 frame_says : (front frame output error : List ℕ)
     → fold decode (fold decode nothing_decoded front) frame ≡ whole_heard ((fold decode nothing_decoded front).output ++ output) ((fold decode nothing_decoded front).error ++ error)
     → SaysMore front (front ++ frame) output error
@@ -92,7 +92,7 @@ over_put old new status err put lt whole =
 pub nothing_more : (old : List ℕ) → AreWhole old → SaysMore old old [] []
 nothing_more old whole = record { whole = whole; output = sym (append-nil (output_of old)); error = sym (append-nil (error_output_of old)) }
 
--- a part of some bytes was appended to the error output, and then the next part
+-- part of the given bytes was appended to the error output, and then the next part
 pub errors_on : (old mid new bytes part : List ℕ) (at : ℕ) → part ≡ take 65536 (drop at bytes) → SaysMore old mid [] (take at bytes) → SaysMore mid new [] part
     → SaysMore old new [] (take (at + length part) bytes)
 errors_on old mid new bytes part at is first next =
@@ -109,7 +109,7 @@ errors_on old mid new bytes part at is first next =
 pub part_len : (bytes part : List ℕ) (at : ℕ) → part ≡ take 65536 (drop at bytes) → length part ≡ min 65536 (length bytes - at)
 part_len bytes part at is = ap (λ (p : List ℕ). length p) is ∙ length-take 65536 (drop at bytes) ∙ ap (λ (n : ℕ). min 65536 n) (length-drop at bytes)
 
--- the bytes at the beginning are still there
+-- the bytes at the beginning haven't changed
 pub begins_still : (old mid new more : List ℕ) → take (length old) mid ≡ old → new ≡ mid ++ more → take (length old) new ≡ old
 begins_still old mid new more begins put =
     let within : length old ≤ length mid = omega (arith, length-take (length old) mid, ap (λ (p : List ℕ). length p) begins) in

@@ -12,7 +12,7 @@ use Rattle.order_protocol.proofs.Fields.{IsBytes, wide32}
 abbrev head_of : FrameKind → ℕ → FrameHead
 head_of kind len = record { kind = kind; len = len }
 
--- what is encoded is decoded
+-- whatever is encoded can be decoded
 pub head_again : (kind : FrameKind) (len : ℕ) → len < 2 ^ 32 → head_in (head_bytes kind len) ≡ Some (head_of kind len)
 head_again kinds.Output len lt = ap (λ (n : ℕ). Some (head_of kinds.Output n)) (wide32.again len lt)
 head_again kinds.End len lt = ap (λ (n : ℕ). Some (head_of kinds.End n)) (wide32.again len lt)
@@ -24,7 +24,7 @@ front_is (said bytes) = refl
 front_is (over status err) = refl
 front_is (said_err bytes) = refl
 
--- ---- what is decoded has this encoding
+-- ---- whatever is decoded has this encoding
 
 kind_found : (byte : ℕ) → IfSome (kind_in byte) (λ kind. byte ≡ kind_byte kind)
 kind_found zero = tt

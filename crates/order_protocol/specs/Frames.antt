@@ -50,8 +50,8 @@ frame_bytes (said_err bytes) = 3 ∷ string bytes
 abbrev pub frames_bytes : List Frame → List ℕ
 frames_bytes frames = flat_map frame_bytes frames
 
--- What the next byte is: the kind of a frame, a byte of its length, or one of the frame's own bytes. Of a length it states the number that the earlier bytes encode,
--- and how many more are expected. Of a frame's own bytes it states how many more are expected.
+-- What the next byte is: the kind of a frame, a byte of its length, or one of the frame's own bytes. For a byte of a length, it contains the number that the earlier
+-- bytes encode, and how many more are expected. For a frame's own bytes, it contains how many more are expected.
 pub data DecoderState : Type 0 where
   at_kind : DecoderState
   in_length : ℕ → ℕ → ℕ → DecoderState
@@ -71,11 +71,11 @@ abbrev pub behind_length : ℕ → ℕ → DecoderState
 behind_length kind zero = at_kind
 behind_length kind (suc n) = in_bytes kind (suc n)
 
--- the first byte of the end, which is its status, is followed by bytes of the error output
+-- the first byte of the end is its status, and is followed by bytes of the error output
 abbrev pub behind_first : ℕ → ℕ
 behind_first kind = if kind == 2 then 3 else kind
 
--- decodes one more byte
+-- decodes another byte
 abbrev pub decode_at : DecoderState → List ℕ → List ℕ → ℕ → Decoded
 decode_at at_kind output error byte = record { place = in_length byte 0 4; output = output; error = error }
 decode_at (in_length kind number zero) output error byte = record { place = at_kind; output = output; error = error }
@@ -95,21 +95,21 @@ decode decoded byte = decode_at decoded.place decoded.output decoded.error byte
 abbrev pub output_of : List ℕ → List ℕ
 output_of bytes = (fold decode nothing_decoded bytes).output
 
--- the error output that is contained in them
+-- the error output that is contained in the bytes of frames
 abbrev pub error_output_of : List ℕ → List ℕ
 error_output_of bytes = (fold decode nothing_decoded bytes).error
 
--- the frames in these bytes are complete: the next byte is the kind of another frame
+-- the frames in the given bytes are complete: the next byte is the kind of another frame
 abbrev pub AreWhole : List ℕ → Type 0
 AreWhole bytes = (fold decode nothing_decoded bytes).place ≡ at_kind
 
--- These are complete frames, and they contain this output and this error output in addition to those of the old ones.
+-- The new frames are complete, and they contain the given output and error output in addition to those of the old ones.
 pub record SaysMore (old new out err : List ℕ) : Type 0 where
   pub whole : AreWhole new
   pub output : output_of new ≡ output_of old ++ out
   pub error : error_output_of new ≡ error_output_of old ++ err
 
--- Complete frames are followed by the last one, with this status and these bytes of the error output, and nothing follows it.
+-- Complete frames are followed by the last one, with the given status and the given bytes of the error output, and nothing follows it.
 pub record IsOver (bytes : List ℕ) (status : ℕ) (err : List ℕ) : Type 0 where
   pub front : List ℕ
   pub whole : AreWhole front

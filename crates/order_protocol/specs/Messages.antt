@@ -11,7 +11,7 @@ pub record MessagePartEntry : Type 0 where
   pub bytes : Option (List ℕ)
 
 -- An order as it is sent to the server. It contains the version of the program that sends it, and the device and inode numbers of the file that it is for. Then come
--- the words that were typed, the folder in which they were typed, and the files that it names.
+-- the words that were typed, the folder in which they were typed, and the files that the order names.
 pub record OrderMessageEntry : Type 0 where
   pub version : List ℕ
   pub device : ℕ

@@ -61,7 +61,7 @@ list_at bytes = do
   n ← number_at w32 bytes
   pieces_at n.0 n.1
 
--- an order that consists of exactly these bytes
+-- an order that consists of exactly the given bytes
 unfoldable pub order_message_in : List ℕ → Result OrderMessageEntry FormatError
 order_message_in bytes = do
   version ← string_at bytes

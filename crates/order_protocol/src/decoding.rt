@@ -117,7 +117,7 @@ fn all(alloc: Global, bytes: &[u8]) -> Result<OrderMessage<'_>, DecodeError>
     })
 }
 
-/// Decodes an order, which must consist of exactly these bytes.
+/// Decodes an order, which must consist of exactly the given bytes.
 pub fn decode_message(alloc: Global, bytes: &[u8]) -> Result<OrderMessage<'_>, DecodeError>
     // Whatever is decoded has this encoding.
     ensures found { IfOk result (λ h. Fits (order_message_entry h) × (bytes.now ≡ encoding_of (order_message_entry h))) }

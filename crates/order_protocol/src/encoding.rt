@@ -67,7 +67,7 @@ pub fn encode_message(alloc: Global, message: &OrderMessage<'_>) -> Result<Vec<u
     Ok(out)
 }
 
-/// Appends a frame of this kind that contains these bytes.
+/// Appends a frame of the given kind that contains the given bytes.
 fn put_frame(out: &mut Vec<u8>, kind: FrameKind, bytes: &[u8]) -> Result<(), AllocError>
     requires { length bytes.now < 2 ^ 32 }
     ensures put { OnOk result (out.new.items ≡ out.old.items ++ kind_byte kind ∷ string bytes.now) }
@@ -80,7 +80,7 @@ fn put_frame(out: &mut Vec<u8>, kind: FrameKind, bytes: &[u8]) -> Result<(), All
     Ok(())
 }
 
-/// Appends the last frame, which contains a status and these bytes.
+/// Appends the last frame, which contains a status and the given bytes.
 fn put_end(out: &mut Vec<u8>, status: u8, err: &[u8]) -> Result<(), AllocError>
     requires { length err.now + 1 < 2 ^ 32 }
     ensures put { OnOk result (out.new.items ≡ out.old.items ++ frame_bytes (over status err.now)) }

@@ -41,7 +41,7 @@ impl FrameKind {
     }
 }
 
-/// Returns the kind for this byte, if there is one.
+/// Returns the kind for the given byte, if there is one.
 fn kind_of(byte: u8) -> Option<FrameKind>
     ensures { result ≡ kind_in byte }
 {
@@ -82,7 +82,7 @@ pub fn read_frame_head(bytes: [u8; 5]) -> Option<FrameHead>
     head_of(&bytes)
 }
 
-/// Returns the first of these bytes, as many as fit into one frame.
+/// Returns as many of the first bytes as fit into one frame.
 pub fn frame_part(bytes: &[u8]) -> &[u8]
     ensures { result.now ≡ take max_frame bytes.now }
 {

@@ -8,7 +8,7 @@ ghost use Rattle.order_protocol.specs.Reading.{message_len_in};
 /// The maximum number of bytes in an order that is sent to the server.
 pub const MAX_MESSAGE: usize = 32 << 20;
 
-/// Returns true if an order, or a part of one, of this many bytes can be sent to the server.
+/// Returns true if an order of the given length, or a part of one, can be sent to the server.
 pub fn is_message_len(len: usize) -> bool
     ensures { IsTrue result ↔ (len ≤ max_message) }
 {

@@ -8,7 +8,8 @@ pub struct MessagePart<'b> {
 }
 
 /// An order as it is sent to the server. It contains the version of the program that sends it, and the device and inode numbers of
-/// the file that it is for. Then come the words that were typed, the folder in which they were typed, and the files that it names.
+/// the file that it is for. Then come the words that were typed, the folder in which they were typed, and the files that the order
+/// names.
 #[derive(Drop)]
 pub struct OrderMessage<'b> {
     pub version: &'b [u8],

@@ -36,7 +36,7 @@ fn is_port_or_none(text: &[u8]) -> bool
     }
 }
 
-/// Returns true if a text is this host, with or without a port after it.
+/// Returns true if a text is the given host, with or without a port after it.
 pub fn is_with_port(front: &[u8], text: &[u8]) -> bool
     ensures { result ≡ is_with_port front.now text.now }
 {

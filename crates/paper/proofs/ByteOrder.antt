@@ -1,4 +1,5 @@
--- Bytes sort in the same order as the number that they represent, most significant byte first.
+-- Byte strings of equal length sort in the same order as the numbers that they represent, most significant byte
+-- first.
 use Rattle.std.proofs.Common.{◌≡◌, ℕ, suc, zero, ◌+◌, ◌*◌, ◌^◌, ◌<◌, ◌≤◌, inl, inr, List, [], ◌∷◌, length, take, get_or, min, refl, sym, ap, ◌∙◌, arith}
 use Rattle.std.specs.Cmp.{nat_cmp_is}
 use Rattle.std.specs.Cmp.Lexicographic.{slice_cmp}
@@ -20,7 +21,7 @@ bytes-take (suc k) [] bytes i = omega arith
 bytes-take (suc k) (x ∷ xs) bytes zero = bytes 0
 bytes-take (suc k) (x ∷ xs) bytes (suc i) = bytes-take k xs (λ j. bytes (suc j)) i
 
--- the number that bytes represent is less than the smallest number with one more byte
+-- the number that a byte string represents is less than the smallest number with one more byte
 number-below : (xs : List ℕ) → AreBytes xs → number_of xs < 256 ^ length xs
 number-below [] bytes = omega arith
 number-below (x ∷ xs) bytes =
@@ -36,7 +37,7 @@ order_shifted a m n Greater is = omega (arith, is)
 order-added : (a m n : ℕ) → nat_cmp (a + m) (a + n) ≡ nat_cmp m n
 order-added a m n = sym (nat_cmp_is (a + m) (a + n) (nat_cmp m n) (order_shifted a m n (nat_cmp m n) (ranked m n (nat_cmp m n) refl)))
 
--- a lower first byte makes the number lower
+-- a number with a lower first byte is lower
 first_below : (x y m n power : ℕ) → x < y → m < power → x * power + m < y * power + n
 first_below x y m n power below small =
     let more : (x + 1) * power ≤ y * power = mul-le-mul_right power (omega (arith, below)) in
@@ -67,7 +68,7 @@ number-order (x ∷ xs) (y ∷ ys) bytes others long =
           sym (nat_cmp_is (number_of (x ∷ xs)) (number_of (y ∷ ys)) Greater more) ∙ ap (λ o. ordering_then o (slice_cmp nat_cmp xs ys)) (nat_cmp_is x y Greater above)
     ]
 
--- if the first elements of two lists differ, they decide the order of the lists
+-- if the first elements of two lists differ, they determine the order of the lists
 decides_then : (o rest whole : Ordering) → (ordering_then o rest ≡ Equal → ⊥) → ((rest ≡ Equal → ⊥) → whole ≡ rest) → ordering_then o whole ≡ ordering_then o rest
 decides_then Less rest whole apart later = refl
 decides_then Equal rest whole apart later = later apart
@@ -84,7 +85,7 @@ first-decides (suc k) (x ∷ xs) (y ∷ ys) apart =
 equal_numbers : (m n : ℕ) → nat_cmp m n ≡ Equal → m ≡ n
 equal_numbers m n is = ranked m n Equal (sym is)
 
--- so the numbers that the first bytes represent decide, if they differ
+-- so the numbers that the first bytes represent determine the order, if they differ
 pub beginnings-order : (k : ℕ) (xs ys : List ℕ) (own other : ℕ) (o : Ordering) → AreBytes xs → AreBytes ys → length xs ≡ length ys → own ≡ number_of (take k xs) → other ≡ number_of (take k ys) →
     (own ≡ other → ⊥) → o ≡ nat_cmp own other → o ≡ slice_cmp nat_cmp xs ys
 beginnings-order k xs ys own other o bytes others long own_is other_is apart is =

@@ -1,4 +1,4 @@
--- Sets of numbers, as ascending lists.
+-- Sets of candidate numbers, stored as ascending lists.
 use Rattle.std.proofs.Common.{◌≡◌, ℕ, suc, zero, ◌+◌, ◌-◌, ◌<◌, ◌≤◌, nat_eq, nat_lt, true, false, List, [], ◌∷◌, ◌++◌, length, take, drop, slice_index, inl, inr, refl, sym, ap, ◌∙◌, subst}
 use Rattle.std.proofs.Common.{arith, length-append, take-append-drop}
 use Rattle.std.specs.List.{filter, AllByRecursion, list_any, prefix_len}
@@ -7,7 +7,7 @@ use Rattle.paper.specs.Columns.{max_candidates, IsCandidateSet, with_column}
 use Rattle.paper.specs.Padded.{listed, padded}
 use Rattle.paper.proofs.PaddedLists.{listed-append_zeros}
 
--- ascending candidate numbers above a bound
+-- ascending candidate numbers above the given bound
 abbrev pub Ascends : ℕ → List ℕ → Type 0
 Ascends low [] = Unit {0}
 Ascends low (x ∷ xs) = (low < x) × (x ≤ max_candidates) × Ascends x xs
@@ -52,7 +52,7 @@ ascends_length : (low : ℕ) (xs : List ℕ) → low ≤ max_candidates → Asce
 ascends_length low [] small up = omega arith
 ascends_length low (x ∷ xs) small up = omega (arith, ascends_length x xs up.1 up.2, up.0)
 
--- a set of columns isn't larger than the maximum number of candidates
+-- a set of columns has at most the maximum number of candidates
 pub length_columns : (xs : List ℕ) → IsCandidateSet xs → length xs ≤ max_candidates
 length_columns xs set = omega (arith, ascends_length 0 xs (omega arith) (ascends_from_columns xs set))
 
@@ -60,11 +60,11 @@ ascends_some : (low : ℕ) (xs : List ℕ) → Ascends low xs → AllByRecursion
 ascends_some low [] up = tt
 ascends_some low (x ∷ xs) up = (omega (arith, up.0), ascends_some x xs up.2)
 
--- the array of a set of columns stores the set
+-- the array made from a set of columns stores the set
 pub listed-padded_columns : (xs : List ℕ) → IsCandidateSet xs → listed (padded xs) ≡ xs
 listed-padded_columns xs set = listed-append_zeros xs (max_candidates - length xs) (ascends_some 0 xs (ascends_from_columns xs set))
 
--- in a set that ascends from c or from a higher number, no number is less than c, and all are greater
+-- in a set that ascends from c or higher, no number is less than c, and all of them are greater
 none_below : (c low : ℕ) (xs : List ℕ) → c ≤ low → Ascends low xs → filter (λ d. nat_lt d c) xs ≡ []
 none_below c low [] at up = refl
 none_below c low (x ∷ xs) at up = rw (le-ltb x c (omega (arith, up.0))) (none_below c x xs (omega (arith, up.0)) up.2)
@@ -73,8 +73,7 @@ all_above : (c low : ℕ) (xs : List ℕ) → c ≤ low → Ascends low xs → f
 all_above c low [] at up = refl
 all_above c low (x ∷ xs) at up = rw (lt-ltb c x (omega (arith, up.0))) (ap (λ l. x ∷ l) (all_above c x xs (omega (arith, up.0)) up.2))
 
--- a number is inserted after the smaller numbers and before the larger ones, and not at all if it is already
--- present
+-- a number is inserted after the smaller numbers and before the larger ones, unless it is already present
 with_less : (c x : ℕ) (xs : List ℕ) → x < c → with_column (x ∷ xs) c ≡ x ∷ with_column xs c
 with_less c x xs less = rw (lt-ltb x c less, le-ltb c x (omega arith)) refl
 
@@ -85,7 +84,7 @@ with_same : (c x : ℕ) (xs : List ℕ) → c ≡ x → Ascends x xs → with_co
 with_same c x xs same up =
     rw (le-ltb x c (omega arith), le-ltb c x (omega arith), none_below c x xs (omega arith) up, all_above c x xs (omega arith) up) (ap (λ n. n ∷ xs) same)
 
--- a set extended by a number is ascending
+-- a set remains ascending when a number is added
 with_column-Ascends : (c low : ℕ) (xs : List ℕ) → low < c → c ≤ max_candidates → Ascends low xs → Ascends low (with_column xs c)
 with_column-Ascends c low [] high few up = (high, few, tt)
 with_column-Ascends c low (x ∷ xs) high few up =
@@ -117,7 +116,7 @@ with_present c low (x ∷ xs) up found =
       ]
     ]
 
--- the parts of a list, split at the first number that isn't less than c
+-- a list with c inserted before the first number that isn't less than c
 abbrev pub parts : ℕ → List ℕ → List ℕ
 parts c xs = take (prefix_len (λ d. nat_lt d c) xs) xs ++ c ∷ drop (prefix_len (λ d. nat_lt d c) xs) xs
 
@@ -149,7 +148,7 @@ with_last : (c low : ℕ) (xs : List ℕ) → Ascends low (xs ++ c ∷ []) → w
 with_last c low [] up = refl
 with_last c low (x ∷ xs) up = with_less c x xs (last_above c x xs up.2) ∙ ap (λ l. x ∷ l) (with_last c x xs up.2)
 
--- the same for a set
+-- adding a number that a set already contains leaves the set unchanged
 pub with_column-present : (xs : List ℕ) (c : ℕ) → IsCandidateSet xs → list_any (nat_eq c) xs ≡ true → with_column xs c ≡ xs
 with_column-present xs c set found = with_present c 0 xs (ascends_from_columns xs set) found
 
@@ -159,7 +158,7 @@ with_column-absent xs c set absent = with_absent c 0 xs (ascends_from_columns xs
 pub with_column-last : (xs : List ℕ) (c : ℕ) → IsCandidateSet (xs ++ c ∷ []) → with_column xs c ≡ xs ++ c ∷ []
 with_column-last xs c set = with_last c 0 xs (ascends_from_columns (xs ++ c ∷ []) set)
 
--- there is room for a number that isn't in the set yet
+-- there is room for a number that the set doesn't contain yet
 pub with_column-room : (xs : List ℕ) (c : ℕ) → 1 ≤ c → c ≤ max_candidates → IsCandidateSet xs → list_any (nat_eq c) xs ≡ false → length xs < max_candidates
 with_column-room xs c some few set absent =
     let n = prefix_len (λ d. nat_lt d c) xs in
@@ -168,13 +167,13 @@ with_column-room xs c some few set absent =
     let both = ap length (take-append-drop n xs) in
     omega (arith, most, parts, both, length-append (take n xs) (drop n xs))
 
--- the array made from the parts
+-- the array built from the parts
 pub parts-made : (xs slice below above numbers : List ℕ) (c at : ℕ) → IsCandidateSet xs → list_any (nat_eq c) xs ≡ false → slice ≡ xs → at ≡ prefix_len (λ d. nat_lt d c) xs →
     below ≡ take at slice → above ≡ drop at slice → numbers ≡ padded (below ++ c ∷ above) → numbers ≡ padded (with_column xs c)
 parts-made xs slice below above numbers c at set absent whole place front back made =
     rw (front, back, whole, place) at made ∙ ap padded (sym (with_column-absent xs c set absent))
 
--- an array made from a set satisfies the invariant
+-- an array built from a set satisfies the invariant
 pub stands : (numbers ys : List ℕ) → IsCandidateSet ys → numbers ≡ padded ys → (padded (listed numbers) ≡ numbers) × IsCandidateSet (listed numbers)
 stands numbers ys set made =
     let same : listed numbers ≡ ys = ap listed made ∙ listed-padded_columns ys set in

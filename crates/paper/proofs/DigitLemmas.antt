@@ -1,4 +1,4 @@
--- The numbers that digits represent.
+-- The numbers that digit strings represent.
 use Rattle.std.proofs.Common.{◌≡◌, ◌∙◌, ◌≤◌, ◌∷◌, ◌&&◌, ℕ, true, List, [], length, Result, refl, sym, ap, arith}
 use Rattle.std.specs.Prelude.{slice_get, unwrap_or}
 use Rattle.std.specs.Char.{is_ascii_digit}

@@ -11,18 +11,18 @@ use Rattle.paper.specs.MarksText.{fields, is_digit, number_in, mark_in, marks_in
 use Rattle.paper.specs.declared.marks.MarkFault.{MarkFault}
 use Rattle.paper.specs.declared.marks.MarkFault.TheVariants.{TooLarge}
 
--- a text has one more field than commas
+-- a text has one more field than it has commas
 pub length-fields : (text : List ℕ) → length (fields text) ≡ count_by (λ b. b == 44) text + 1
 length-fields text = length-slice_split (λ b. b == 44) text
 
 pub ruleset field_counts = length-fields
 
--- a text without a comma is one field
+-- a text without a comma is a single field
 fields-one : (text : List ℕ) → length text ≤ position_or_len (λ b. b == 44) text → fields text ≡ text ∷ []
 fields-one text none =
     slice_split_none (λ b. b == 44) text (λ k d below. fails_before_first (λ b. b == 44) text k d (omega (arith, none, below)))
 
--- the first field ends at the first comma, and any other fields are those of the text after it
+-- the first field ends at the first comma, and the other fields, if any, are the fields of the text after it
 pub fields-first : (text : List ℕ) (others : List (List ℕ)) (field : List ℕ) → fields text ≡ field ∷ others →
     (field ≡ before_first (λ b. b == 44) text) × (0 < length others → fields (after_first (λ b. b == 44) text) ≡ others)
 fields-first text others field parts = by_test (nat_lt (position_or_len (λ b. b == 44) text) (length text)) refl
@@ -40,7 +40,7 @@ fields-first text others field parts = by_test (nat_lt (position_or_len (λ b. b
         let no_others : [] ≡ others = cc in
         (sym whole ∙ sym (take_all (position_or_len (λ c. c == 44) text) text none), λ some. absurd (omega (arith, some, ap length no_others)))
 
--- marks parsed so far, followed by the result for the remaining fields
+-- the marks parsed so far, followed by the result of parsing the remaining fields
 abbrev pub after_marks : List ℕ → Result (List ℕ) MarkFault → Result (List ℕ) MarkFault
 after_marks [] others = others
 after_marks (mark ∷ marks) others = and_marks (Ok mark) (after_marks marks others)
@@ -68,14 +68,14 @@ fields-next fs rest i here same =
     let first = fields-first rest (drop (i + 1) fs) (get_or fs i []) (same ∙ fields_from fs i here) in
     (sym first.0, λ more. first.1 (omega (arith, more, length-drop (i + 1) fs)))
 
--- parsing another field: a fault in it is the fault of the whole text
+-- parsing the next field: a fault in it is the fault of the whole text
 pub field-fault : (fs : List (List ℕ)) (marks field : List ℕ) (i : ℕ) (fault : MarkFault) → marks_in fs ≡ after_marks marks (marks_in (drop i fs)) → i < length fs →
     field ≡ get_or fs i [] → mark_in field ≡ Err fault → marks_in fs ≡ Err fault
 field-fault fs marks field i fault so_far here is faulty =
     so_far ∙ ap (λ others. after_marks marks (marks_in others)) (fields_from fs i here)
     ∙ ap (λ mark. after_marks marks (and_marks mark (marks_in (drop (i + 1) fs)))) (ap mark_in (sym is) ∙ faulty) ∙ after_marks-Err marks fault
 
--- parsing another field: otherwise, its mark is added
+-- parsing the next field: if it has no fault, its mark is added
 pub field-mark : (fs : List (List ℕ)) (marks more field : List ℕ) (i mark : ℕ) → marks_in fs ≡ after_marks marks (marks_in (drop i fs)) → i < length fs →
     field ≡ get_or fs i [] → mark_in field ≡ Ok mark → more ≡ marks ++ mark ∷ [] → marks_in fs ≡ after_marks more (marks_in (drop (i + 1) fs))
 field-mark fs marks more field i mark so_far here is read one =
@@ -87,7 +87,7 @@ field-mark fs marks more field i mark so_far here is read one =
 pub fields-read : (fs : List (List ℕ)) (marks : List ℕ) (i : ℕ) → marks_in fs ≡ after_marks marks (marks_in (drop i fs)) → length fs ≤ i → marks_in fs ≡ Ok marks
 fields-read fs marks i so_far all = so_far ∙ ap (λ others. after_marks marks (marks_in others)) (drop_all i fs all) ∙ after_marks-nil marks
 
--- in an array, each mark written leaves one zero fewer after it
+-- each mark written to the array leaves one zero fewer after it
 pub zeros-less : (marks : List ℕ) (i mark : ℕ) → drop i marks ≡ replicate (max_candidates - i) 0 → drop (i + 1) (set marks i mark) ≡ replicate (max_candidates - (i + 1)) 0
 zeros-less marks i mark zeros =
     drop-set-lt (i + 1) marks i mark (omega arith) ∙ sym (drop-drop 1 i marks) ∙ ap (drop 1) zeros ∙ drop-replicate 1 (max_candidates - i) 0
@@ -98,7 +98,7 @@ number_grows : (n : ℕ) (digits : List ℕ) → n ≤ fold (λ m b. m * 10 + (b
 number_grows n [] = omega arith
 number_grows n (b ∷ digits) = omega (arith, number_grows (n * 10 + (b - 48)) digits)
 
--- a number of three digits without a leading zero is greater than 99
+-- a number with at least three digits and no leading zero is greater than 99
 pub mark_in-long : (field : List ℕ) → (get_or field 0 0 ≡ 48 → ⊥) → list_all is_digit field ≡ true → 2 < length field → Err TooLarge ≡ mark_in field
 mark_in-long [] first digits long = absurd (omega (arith, long))
 mark_in-long (b ∷ []) first digits long = absurd (omega (arith, long))

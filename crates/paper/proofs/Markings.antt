@@ -10,7 +10,7 @@ use Rattle.paper.specs.Marking.{Marking, candidates_of, marked_with}
 use Rattle.paper.specs.declared.marked.Bearers.{Bearers}
 use Rattle.paper.specs.declared.marked.Bearers.TheVariants.{Nobody}
 
--- the first pairs of two lists, and one more
+-- the first pairs of two lists, and the next pair
 zip-take_more : (xs ys : List ℕ) (i : ℕ) → i < length xs → i < length ys → take (i + 1) (zip xs ys) ≡ take i (zip xs ys) ++ (get_or xs i 0, get_or ys i 0) ∷ []
 zip-take_more [] ys i here there = absurd (omega (arith, here))
 zip-take_more (x ∷ xs) [] i here there = absurd (omega (arith, there))
@@ -19,7 +19,7 @@ zip-take_more (x ∷ xs) (y ∷ ys) (suc i) here there =
     let e : suc i + 1 ≡ suc (i + 1) = omega arith in
     ap (λ n. take n ((x, y) ∷ zip xs ys)) e ∙ ap (λ l. (x, y) ∷ l) (zip-take_more xs ys i (omega (arith, here)) (omega (arith, there)))
 
--- adding a candidate whose mark is the number, or isn't
+-- adding a candidate whose mark is, or isn't, the given number
 marked_with-append : (n : ℕ) (ms : Marking) (c mark : ℕ) → marked_with n (ms ++ (c, mark) ∷ []) ≡ marked_with n ms ++ cond (mark == n) (c ∷ []) []
 marked_with-append n [] c mark = by_mark (mark == n)
   where
@@ -45,7 +45,7 @@ zip-within [] ys same = omega arith
 zip-within (x ∷ xs) [] same = cc
 zip-within (x ∷ xs) (y ∷ ys) same = omega (arith, zip-within xs ys (ap (drop 1) same))
 
--- the bearers among the first candidates, and another candidate who is a bearer, or isn't
+-- the bearers among the first candidates after adding the next candidate, who may or may not be a bearer
 bearers-yes : (n : ℕ) (xs ys : List ℕ) (i : ℕ) (found more : Bearers) → found ≡ bearers_of (marked_with n (take i (zip xs ys))) → i < length xs → i < length ys →
     get_or ys i 0 ≡ n → more ≡ one_more found (get_or xs i 0) → more ≡ bearers_of (marked_with n (take (i + 1) (zip xs ys)))
 bearers-yes n xs ys i found more so_far here there same one =
@@ -62,13 +62,13 @@ bearers-no n xs ys i found so_far here there other =
     ∙ ap bearers_of (sym (marked_with-append n (take i (zip xs ys)) (get_or xs i 0) (get_or ys i 0)))
     ∙ ap (λ ms. bearers_of (marked_with n ms)) (sym (zip-take_more xs ys i here there))
 
--- at the start, no candidate bears a number
+-- at the start, no candidate has any of the numbers
 pub nobody-yet : (k n : ℕ) → get_or (replicate k Nobody) n Nobody ≡ Nobody
 nobody-yet zero n = refl
 nobody-yet (suc k) zero = refl
 nobody-yet (suc k) (suc n) = nobody-yet k n
 
--- another candidate bears the number in the candidate's field
+-- the next candidate is added to the bearers of the number in the candidate's field
 pub AreBearers-more : (xs ys : List ℕ) (i mark : ℕ) (bearers after : List Bearers) (more : Bearers) → AreBearers (take i (zip xs ys)) bearers → i < length xs → i < length ys → mark ≡ get_or ys i 0 →
     mark < max_candidates + 1 →
     length bearers ≡ max_candidates + 1 → more ≡ one_more (get_or bearers mark Nobody) (get_or xs i 0) → after ≡ set bearers mark more → AreBearers (take (i + 1) (zip xs ys)) after
@@ -82,14 +82,14 @@ AreBearers-more xs ys i mark bearers after more so_far here there is few size on
       | inr other ↦ get_or-set_other bearers mark n more Nobody other ∙ bearers-no n xs ys i (get_or bearers n Nobody) (so_far n small) here there (λ same. other (sym same ∙ sym is))
     ]
 
--- another candidate whose number is too large bears none of these numbers
+-- if the next candidate's number is too large, the bearers are unchanged
 pub AreBearers-past : (xs ys : List ℕ) (i mark : ℕ) (bearers after : List Bearers) → AreBearers (take i (zip xs ys)) bearers → i < length xs → i < length ys → mark ≡ get_or ys i 0 →
     max_candidates + 1 ≤ mark → after ≡ bearers →
     AreBearers (take (i + 1) (zip xs ys)) after
 AreBearers-past xs ys i mark bearers after so_far here there is large same n small =
     ap (λ all. get_or all n Nobody) same ∙ bearers-no n xs ys i (get_or bearers n Nobody) (so_far n small) here there (λ at. omega (arith, at, is, large, small))
 
--- the first pairs are all pairs
+-- once there are no further pairs, the first pairs are all of them
 pub zip-all : (xs ys : List ℕ) (i : ℕ) → length xs ≤ i → take i (zip xs ys) ≡ zip xs ys
 zip-all xs ys i all = take_all i (zip xs ys) (omega (arith, zip-short xs ys, all))
   where

@@ -1,4 +1,5 @@
--- The computed preferences are the longest list of candidates such that each is alone with the next number.
+-- The computed preferences are the longest list of candidates such that each is the only one with the next
+-- number.
 use Rattle.std.proofs.Common.{◌≡◌, ℕ, suc, zero, ◌+◌, ◌-◌, ◌<◌, ◌≤◌, ◌==◌, nat_eq, Bool, true, false, cond, ◌||◌, List, [], ◌∷◌, ◌++◌, length, take, drop, set, replicate, map, inl, inr}
 use Rattle.std.proofs.Common.{refl, sym, ap, ◌∙◌, arith, append-nil, append_assoc}
 use Rattle.std.specs.List.{filter, list_any}
@@ -14,7 +15,7 @@ use Rattle.paper.specs.declared.marked.Bearers.TheVariants.{Nobody, One, Several
 use Rattle.paper.proofs.ColumnSets.{Ascends, ascends_from_columns}
 use Rattle.paper.proofs.Rankings.{length_ranking}
 
--- The computed list consists of candidates who are alone with their numbers.
+-- Each candidate in the computed list is the only one with their number.
 alone_from : (most n : ℕ) (ms : Marking) → StandAlone n ms (preferences_from most n ms)
 unfolding preferences_from
 alone_from zero n ms = tt
@@ -26,14 +27,14 @@ alone_from (suc most) n ms = by_list (marked_with n ms) refl (alone_from most (n
     by_list (c ∷ []) is behind = (is, behind)
     by_list (c ∷ d ∷ cs) is behind = tt
 
--- The computed list isn't shorter than any other such list.
+-- The computed list is at least as long as any other such list.
 longest_from : (most n : ℕ) (ms : Marking) (others : List ℕ) → StandAlone n ms others → length others ≤ most → length others ≤ length (preferences_from most n ms)
 unfolding preferences_from
 longest_from most n ms [] alone few = omega arith
 longest_from zero n ms (c ∷ cs) alone few = absurd (omega (arith, few))
 longest_from (suc most) n ms (c ∷ cs) alone few = rw alone.0 (omega (arith, longest_from most (n + 1) ms cs alone.1 (omega (arith, few))))
 
--- a number in an ascending list lies between the list's bounds
+-- a number in an ascending list is between the list's bounds
 in_ascending : (c low : ℕ) (xs : List ℕ) → Ascends low xs → list_any (nat_eq c) xs ≡ true → (low < c) × (c ≤ max_candidates)
 in_ascending c low [] up found = cc
 in_ascending c low (x ∷ xs) up found =
@@ -44,7 +45,7 @@ in_ascending c low (x ∷ xs) up found =
           (omega (arith, later.0, up.0), later.1)
     ]
 
--- a candidate with a number in the field is one of the paper's candidates
+-- a candidate whose field contains a given number is one of the paper's candidates
 in_candidates : (c n : ℕ) (ms : Marking) → list_any (nat_eq c) (marked_with n ms) ≡ true → list_any (nat_eq c) (candidates_of ms) ≡ true
 in_candidates c n [] found = found
 in_candidates c n (m ∷ ms) found = by_mark (m.1 == n) found (in_candidates c n ms)
@@ -63,7 +64,8 @@ abbrev pub mark_beside : Marking → ℕ → ℕ
 mark_beside [] c = 0
 mark_beside (m ∷ ms) c = cond (nat_eq c m.0) m.1 (mark_beside ms c)
 
--- if a candidate's field has a number, that is the candidate's mark, because each candidate occurs only once
+-- if a candidate's field contains a number, that number is the candidate's mark, because each candidate occurs
+-- only once
 mark_is : (c n low : ℕ) (ms : Marking) → Ascends low (candidates_of ms) → list_any (nat_eq c) (marked_with n ms) ≡ true → mark_beside ms c ≡ n
 mark_is c n low [] up found = cc
 mark_is c n low (m ∷ ms) up found =
@@ -88,7 +90,7 @@ absent_later c n k ms (y ∷ ys) up mark later alone =
     or_from _ _ (ne_eqb y c (λ same. omega (arith, later, mark, ap (mark_beside ms) same, mark_is y k 0 ms up (rw alone.0 (or_left _ false (eq-eqb y y refl))))))
     (absent_later c n (k + 1) ms ys up mark (omega (arith, later)) alone.1)
 
--- candidates who are alone with their numbers are a ranking, because no candidate has two marks
+-- candidates who are the only ones with their numbers form a ranking, because no candidate has two marks
 pub alone_ranking : (n : ℕ) (ms : Marking) (cs : List ℕ) → Ascends 0 (candidates_of ms) → StandAlone n ms cs → IsRanking cs
 alone_ranking n ms [] up alone = tt
 alone_ranking n ms (c ∷ cs) up alone =
@@ -128,7 +130,7 @@ lower_from (suc most) (suc n) start others ms same =
 pub lower_marks_decide : (ms : Marking) → LowerMarksDecide ms
 lower_marks_decide ms others n same = lower_from max_candidates n 1 others ms (λ k low high. same k low (omega (arith, high)))
 
--- What a loop that counts up the numbers has computed so far.
+-- What a loop over ascending numbers has computed so far.
 step_alone : (place : ℕ) (ms : Marking) → place < max_candidates →
     preferences_from (max_candidates - place) (place + 1) ms ≡ if_alone (marked_with (place + 1) ms) (preferences_from (max_candidates - (place + 1)) (place + 1 + 1) ms)
 unfolding preferences_from
@@ -141,7 +143,7 @@ alone-One [] c one = cc
 alone-One (d ∷ []) c one = cc
 alone-One (d ∷ e ∷ cs) c one = cc
 
--- the loop computes another preference
+-- the loop computes the next preference
 pub preferred-more : (ms : Marking) (numbers : List ℕ) (place c : ℕ) → preferences ms ≡ take place numbers ++ preferences_from (max_candidates - place) (place + 1) ms → place < max_candidates →
     length numbers ≡ max_candidates →
     One c ≡ bearers_of (marked_with (place + 1) ms) → preferences ms ≡ take (place + 1) (set numbers place c) ++ preferences_from (max_candidates - (place + 1)) (place + 1 + 1) ms
@@ -150,7 +152,7 @@ preferred-more ms numbers place c whole more size one =
     whole ∙ ap (λ l. take place numbers ++ l) (step_alone place ms more ∙ ap (λ cs. if_alone cs behind) (alone-One (marked_with (place + 1) ms) c one))
     ∙ sym (append_assoc (take place numbers) (c ∷ []) behind) ∙ ap (λ l. l ++ behind) (sym (take_more_set numbers place c (omega (arith, size, more))))
 
--- the loop has computed all preferences
+-- once the loop ends, it has computed all preferences
 pub preferred-done : (ms : Marking) (numbers : List ℕ) (place : ℕ) → preferences ms ≡ take place numbers ++ preferences_from (max_candidates - place) (place + 1) ms →
     drop place numbers ≡ replicate (max_candidates - place) 0 →
     length numbers ≡ max_candidates → place ≤ max_candidates → preferences_from (max_candidates - place) (place + 1) ms ≡ [] → numbers ≡ padded (preferences ms)

@@ -57,13 +57,12 @@ distinct_zero : (xs : List ℕ) → IsRanking xs → IsDistinct eqb (0 ∷ xs)
 unfolding IsDistinct
 distinct_zero xs h = (zero_apart xs (ranking_some xs h), ranking_distinct xs h)
 
--- together with 0, the numbers of a ranking are distinct numbers less than 31, so a ranking isn't longer than
--- 30
+-- 0 and the numbers in a ranking are distinct and less than 31, so a ranking has at most 30 elements
 pub length_ranking : (xs : List ℕ) → IsRanking xs → length xs ≤ max_candidates
 length_ranking xs h =
     omega (arith, length-le_from_distinct_below (0 ∷ xs) 31 (distinct_zero xs h) (λ q found. below_more 0 q (eqb q 0) (list_any (eqb q) xs) (omega arith) (below xs q h) refl found))
 
--- the array of a ranking stores the ranking
+-- the array made from a ranking stores the ranking
 pub listed-padded_ranking : (xs : List ℕ) → IsRanking xs → listed (padded xs) ≡ xs
 listed-padded_ranking xs h = listed-append_zeros xs (max_candidates - length xs) (ranking_some xs h)
 

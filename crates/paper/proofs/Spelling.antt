@@ -1,4 +1,4 @@
--- Text that is parsed is spelled as the same text, and vice versa.
+-- A text that parses is the spelling of the result, and vice versa.
 use Rattle.std.proofs.Common.{◌≡◌, ℕ, suc, zero, ◌+◌, ◌-◌, ◌*◌, ◌/◌, ◌%◌, ◌<◌, ◌≤◌, ◌==◌, nat_le, nat_lt, Bool, true, false, not, cond, ◌&&◌, ◌||◌, List, [], ◌∷◌, ◌++◌, length, take, get_or}
 use Rattle.std.proofs.Common.{map, Result, Ok, Err, inl, inr, refl, sym, ap, ◌∙◌, subst, arith, decimal, codes, bytes_eq, append_assoc}
 use Rattle.std.specs.List.{list_all, join_with_byte, zip, All, AllByRecursion}
@@ -77,7 +77,7 @@ mark_text-mark_in (b ∷ c ∷ d ∷ more) mark read =
 written : (n : ℕ) → mark_text (suc n) ≡ decimal (suc n)
 written n = cond-false (suc n == 0) [] (decimal (suc n)) (ne_eqb (suc n) 0 (λ same. omega (arith, same)))
 
--- the text of a mark is parsed as that mark
+-- the text of a mark parses as that mark
 pub mark_in-mark_text : (mark : ℕ) → mark ≤ 99 → mark_in (mark_text mark) ≡ Ok mark
 mark_in-mark_text zero few = refl
 mark_in-mark_text (suc n) few =
@@ -132,7 +132,7 @@ marks_written [] small = refl
 marks_written (mark ∷ marks) small =
     ap (λ m. and_marks m (marks_in (map mark_text marks))) (mark_in-mark_text mark small.0) ∙ ap (and_marks (Ok mark)) (marks_written marks small.1)
 
--- pairing two lists, and recovering each of them
+-- pairing two lists, and recovering each list from the pairs
 candidates-zip : (columns marks : List ℕ) → length columns ≤ length marks → candidates_of (zip columns marks) ≡ columns
 candidates-zip [] marks few = refl
 candidates-zip (c ∷ columns) [] few = absurd (omega (arith, few))
@@ -155,7 +155,7 @@ zip-parts (m ∷ ms) = ap (λ l. m ∷ l) (zip-parts ms)
 fields-some : (text : List ℕ) → 1 ≤ length (fields text)
 fields-some text = omega (arith, length-fields text)
 
--- the marks in a text for some columns
+-- the marks parsed from a text for the given columns
 pub record IsRead (columns text marks : List ℕ) : Type 0 where
   pub columns_are : candidates_of (zip columns marks) ≡ columns
   pub marks_are : padded (marks_of (zip columns marks)) ≡ marks
@@ -199,7 +199,7 @@ no_comma [] digits k d here = absurd (omega (arith, here))
 no_comma (b ∷ bs) digits zero d here = ne_eqb b 44 (λ same. omega (arith, same, (a_digit b (and_parts (is_digit b) (list_all is_digit bs) digits).0).0))
 no_comma (b ∷ bs) digits (suc k) d here = no_comma bs (and_parts (is_digit b) (list_all is_digit bs) digits).1 k d (omega (arith, here))
 
--- joined fields of digits are split into the same fields
+-- joined fields of digits are split back into the same fields
 fields-join : (mark : ℕ) (marks : List ℕ) → mark ≤ 99 → AllByRecursion (λ m. m ≤ 99) marks →
     fields (join_with_byte 44 (map mark_text (mark ∷ marks))) ≡ map mark_text (mark ∷ marks)
 fields-join mark [] few small = slice_split_none (λ b. b == 44) (mark_text mark) (no_comma (mark_text mark) (mark_text-digits mark few))
@@ -228,7 +228,7 @@ join-more : (g : List ℕ) (fs : List (List ℕ)) (f : List ℕ) → join_with_b
 join-more g [] f = refl
 join-more g (h ∷ fs) f = ap (λ l. g ++ (44 ∷ l)) (join-more h fs f) ∙ sym (append_assoc g (44 ∷ join_with_byte 44 (h ∷ fs)) (44 ∷ f))
 
--- the text of the first fields, and of one more
+-- the text of the first fields, extended by the next field
 pub text-more : (marks : List ℕ) (i : ℕ) → i < length marks →
     join_with_byte 44 (map mark_text (take (i + 1) marks)) ≡ join_with_byte 44 (map mark_text (take i marks)) ++ field_text i (get_or marks i 0)
 text-more [] i here = absurd (omega (arith, here))
@@ -240,6 +240,6 @@ text-more (m ∷ marks) (suc i) here =
     ∙ ap (λ l. join_with_byte 44 (map mark_text (take (suc i) (m ∷ marks))) ++ l)
     (sym (cond-false (suc i == 0) (mark_text (get_or marks i 0)) (44 ∷ mark_text (get_or marks i 0)) (ne_eqb (suc i) 0 (λ none. omega (arith, none)))))
 
--- the marks of the columns are the first marks, one per column
+-- the first marks, one per column, are the marks of the columns
 pub marks-beside : (columns marks : List ℕ) → candidates_of (zip columns marks) ≡ columns → take (length columns) marks ≡ marks_of (zip columns marks)
 marks-beside columns marks same = sym (marks-zip columns marks (zip-within columns marks same))

@@ -13,7 +13,7 @@ or_none : (b c : Bool) → c ≡ false → (b || c) ≡ b
 or_none true c none = refl
 or_none false c none = none
 
--- the status of another number has been set
+-- setting the status of a number
 pub status_of-set : (old now : List CandidateStatus) (s : CandidateStatus) (xs : List ℕ) (i k : ℕ) → i < length xs → slice_index xs i < length now →
     status_of now k ≡ cond (list_any (nat_eq k) (take i xs)) s (status_of old k) →
     status_of (set now (slice_index xs i) s) k ≡ cond (list_any (nat_eq k) (take (i + 1) xs)) s (status_of old k)
@@ -28,7 +28,7 @@ status_of-set old now s xs i k here within given =
           (get_or-set_other now (slice_index xs i) k s _ other ∙ given)
     ]
 
--- skipping the elements that fail a test leaves the list from the first element that passes
+-- skipping the elements that fail a test leaves the rest of the list, starting at the first element that passes
 pub drop-passed : {X : Type 0} (p : X → Bool) (xs : List X) → drop (prefix_len (λ x. not (p x)) xs) xs ≡ from_first p xs
 drop-passed p [] = refl
 drop-passed p (x ∷ xs) = by_test (p x) refl (drop-passed p xs)
@@ -40,7 +40,7 @@ drop-passed p (x ∷ xs) = by_test (p x) refl (drop-passed p xs)
         let e : 1 + prefix_len (λ y. not (p y)) xs ≡ suc (prefix_len (λ y. not (p y)) xs) = omega arith in
         rw (fails, e) others
 
--- the first element of that list is the first that passes
+-- the first element of the rest is the first element that passes
 pub find-from_first : {X : Type 0} (p : X → Bool) (xs : List X) → slice_get (from_first p xs) 0 ≡ find p xs
 find-from_first p [] = refl
 find-from_first p (x ∷ xs) = by_test (p x) refl (find-from_first p xs)
@@ -55,7 +55,7 @@ status_of-absent zero k = refl
 status_of-absent (suc n) zero = refl
 status_of-absent (suc n) (suc k) = status_of-absent n k
 
--- the continuing candidates are those of the first set
+-- the continuing candidates are those in the first set
 pub is_continuing-among : (standing : List CandidateStatus) (continuing elected excluded : List ℕ) (c : ℕ) →
     status_of standing c ≡ status_among continuing elected excluded c → is_continuing standing c ≡ list_any (nat_eq c) continuing
 is_continuing-among standing continuing elected excluded c is =

@@ -5,13 +5,13 @@ use Rattle.paper.specs.Marking.{Marking, marked_with}
 use Rattle.paper.specs.declared.marked.Bearers.{Bearers}
 use Rattle.paper.specs.declared.marked.Bearers.TheVariants.{Nobody, One, Several}
 
--- no candidate, the only candidate of a list, or several candidates
+-- which candidates a list contains: none, exactly one, or several
 abbrev pub bearers_of : List ℕ → Bearers
 bearers_of [] = Nobody
 bearers_of (c ∷ []) = One c
 bearers_of (c ∷ d ∷ cs) = Several
 
--- the bearers after one more candidate
+-- the bearers with another candidate added
 abbrev pub one_more : Bearers → ℕ → Bearers
 one_more Nobody c = One c
 one_more (One d) c = Several

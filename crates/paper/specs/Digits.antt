@@ -1,4 +1,4 @@
--- Numbers in plain decimal digits, each with exactly one spelling.
+-- Numbers written as plain decimal digits, each with exactly one spelling.
 use Rattle.std.specs.Prelude.{ℕ, Bool, false, not, ◌&&◌, ◌==◌, nat_le, if◌then◌else◌, List, [], ◌∷◌, length, Option, Some, None}
 use Rattle.std.specs.List.{list_all}
 use Rattle.std.specs.Char.{is_ascii_digit}
@@ -13,6 +13,6 @@ abbrev pub is_plain : List ℕ → Bool
 is_plain [] = false
 is_plain (b ∷ bs) = not (b == 48) && (nat_le (length (b ∷ bs)) most_digits && list_all is_ascii_digit (b ∷ bs))
 
--- the number in a text of plain digits
+-- the number represented by a text of plain digits
 abbrev pub plain_number_in : List ℕ → Option ℕ
 plain_number_in text = if is_plain text then Some (digits_value 10 text) else None

@@ -1,4 +1,4 @@
--- Marks as text: how a text is read, and the only text of a keyed paper.
+-- Marks as text: how a text is read, and the only valid text for a keyed paper.
 use Rattle.std.specs.Prelude.{◌≡◌, ℕ, ◌+◌, ◌-◌, ◌*◌, Bool, not, ◌&&◌, ◌||◌, ◌==◌, nat_le, nat_lt, if◌then◌else◌, List, [], ◌∷◌, length, map, Result, Ok, Err, codes, decimal, bytes_eq}
 use Rattle.std.specs.List.{slice_split, join_with_byte, list_all, fold, zip}
 use Rattle.paper.specs.Marking.{candidates_of, marks_of}
@@ -15,7 +15,7 @@ fields text = slice_split (λ b. b == 44) text
 abbrev pub is_digit : ℕ → Bool
 is_digit b = nat_le 48 b && nat_le b 57
 
--- the number that digits represent
+-- the number that a digit string represents
 abbrev pub number_in : List ℕ → ℕ
 number_in digits = fold (λ n b. n * 10 + (b - 48)) 0 digits
 
@@ -26,7 +26,7 @@ mark_in (b ∷ bs) =
     if b == 48 || not (list_all is_digit (b ∷ bs)) then Err NotANumber else (
     if nat_lt 99 (number_in (b ∷ bs)) then Err TooLarge else Ok (number_in (b ∷ bs)))
 
--- the mark in a field, followed by the marks in the later fields; or the fault of the first invalid field
+-- the mark in a field, followed by the marks in later fields; or the fault of the first invalid field
 abbrev pub and_marks : Result ℕ MarkFault → Result (List ℕ) MarkFault → Result (List ℕ) MarkFault
 and_marks (Err fault) marks = Err fault
 and_marks (Ok mark) (Err fault) = Err fault
@@ -37,7 +37,7 @@ abbrev pub marks_in : List (List ℕ) → Result (List ℕ) MarkFault
 marks_in [] = Ok []
 marks_in (field ∷ fields) = and_marks (mark_in field) (marks_in fields)
 
--- the marks of the candidates in these columns, or the fault
+-- the marks of the candidates in the given columns, or the fault
 abbrev pub with_columns : List ℕ → Result (List ℕ) MarkFault → Result Keyed MarkFault
 with_columns columns (Err fault) = Err fault
 with_columns columns (Ok marks) = Ok (Marked (zip columns marks))
@@ -53,16 +53,16 @@ reading columns text =
 abbrev pub mark_text : ℕ → List ℕ
 mark_text mark = if mark == 0 then [] else decimal mark
 
--- the text of a field, with a comma in front unless it is the first field
+-- the text of a field, preceded by a comma unless it is the first field
 abbrev pub field_text : ℕ → ℕ → List ℕ
 field_text i mark = if i == 0 then mark_text mark else 44 ∷ mark_text mark
 
--- the only text of a keyed paper
+-- the only text that is read as the given keyed paper
 abbrev pub spelling : Keyed → List ℕ
 spelling Doubtful = codes "D"
 spelling (Marked marking) = join_with_byte 44 (map mark_text (marks_of marking))
 
--- a paper has its own columns; a doubtful paper can have any columns
+-- a paper has its own columns; a doubtful paper may have any columns
 abbrev pub HasColumns : Keyed → List ℕ → Type 0
 HasColumns Doubtful columns = Unit {0}
 HasColumns (Marked marking) columns = candidates_of marking ≡ columns

@@ -1,4 +1,4 @@
--- The numbers of faults and rejections.
+-- The numbers that identify faults and rejections.
 use Rattle.std.specs.Prelude.{ℕ}
 use Rattle.paper.specs.declared.marks.MarkFault.{MarkFault}
 use Rattle.paper.specs.declared.marks.MarkFault.TheVariants.{FieldCount, NotANumber, TooLarge}

@@ -45,13 +45,13 @@ impl Columns {
         }
     }
 
-    /// Returns the set extended by a number from 1 to `MAX_CANDIDATES`.
+    /// Returns the set with a number from 1 to `MAX_CANDIDATES` added.
     pub fn with(self, c: u8) -> Columns
         requires some { 1 ≤ c }
         requires few { c ≤ max_candidates }
         ensures is { result ≡ with_column self c }
         ensures set { IsCandidateSet result }
-        // a number above all others is appended
+        // a number greater than all others is appended
         ensures last { IsCandidateSet (self ++ c ∷ []) → result ≡ self ++ c ∷ [] }
     {
         let list = self.as_slice();
@@ -64,7 +64,7 @@ impl Columns {
         }
     }
 
-    /// Returns how many numbers in the set are less than this number.
+    /// Returns how many numbers in the set are less than the given number.
     fn count_below(&self, c: u8) -> usize
         ensures is { result ≡ prefix_len (λ d. nat_lt d c) self.now }
         ensures within { result ≤ length self.now }

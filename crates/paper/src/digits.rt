@@ -1,4 +1,4 @@
-//! Numbers in plain decimal digits.
+//! Numbers written as plain decimal digits.
 
 ghost use Rattle.std.specs.Prelude.{◌≡◌};
 ghost use Rattle.std.specs.Char.{is_ascii_digit};

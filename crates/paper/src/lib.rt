@@ -1,8 +1,8 @@
-//! Ballot papers: what a clerk keyed from one, its preferences, and whether it is valid.
+//! Ballot papers: what a clerk keyed from a paper, its preferences, and whether it is valid.
 //!
 //! [`Marks::read`] parses the text of a [`Keyed`] paper, or returns the exact [`MarkFault`]; [`Keyed::text`] converts the paper
-//! back to its text. [`judge`] returns the preferences of a [`Marked`] paper, or the reason for its rejection. [`Columns`] is a set
-//! of candidate numbers, iterated in ascending order. A [`Standing`] maps each number to a [`CandidateStatus`], which
+//! back to text. [`judge`] returns the preferences of a [`Marked`] paper, or the reason for its rejection. [`Columns`] is a set of
+//! candidate numbers, iterated in ascending order. A [`Standing`] maps each number to a [`CandidateStatus`], which
 //! [`next_available`] uses to skip preferences.
 //!
 //! ```text
@@ -25,7 +25,7 @@ mod prefs;
 mod validity;
 // the status of each candidate, and the next available preference
 mod standing;
-// numbers in digits, as they appear in files and paths
+// numbers written as digits, as they appear in files and paths
 mod digits;
 
 pub use columns::{Columns, MAX_CANDIDATES};

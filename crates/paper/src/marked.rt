@@ -1,4 +1,4 @@
-//! What a clerk keyed from a ballot paper, and its text.
+//! What a clerk keyed from a ballot paper, and how that is written as text.
 
 ghost use Rattle.std.specs.Prelude.{◌≡◌, ℕ, ◌+◌, ◌≤◌, ◌++◌, length, IfOk, OnOk, string_bytes};
 ghost use Rattle.std.specs.List.{zip};
@@ -15,8 +15,8 @@ use std::marker::Model;
 /// The number of marks that matter for the preferences: 0, and one for each preference.
 pub(crate) const NUMBERS: usize = MAX_CANDIDATES + 1;
 
-/// The marks on a ballot paper: each candidate's number with the mark in the candidate's field, from 1 to 99, or 0 if the
-/// field is empty. In ascending order of candidate numbers.
+/// The marks on a ballot paper, in ascending order of candidate numbers: each candidate's number with the mark in the
+/// candidate's field, from 1 to 99, or 0 if the field is empty.
 #[derive(Clone, Copy, Debug, PartialEq, Eq)]
 pub struct Marked {
     columns: Columns,
@@ -45,7 +45,7 @@ impl Model for Marked {
 /// A ballot paper as keyed by a clerk.
 #[derive(Clone, Copy, Debug, PartialEq, Eq)]
 pub enum Keyed {
-    /// The clerk leaves the paper to the returning officer.
+    /// The clerk leaves the decision on the paper to the returning officer.
     Doubtful,
     Marked(Marked),
 }
@@ -64,7 +64,7 @@ impl Keyed {
 }
 
 impl Marked {
-    /// Returns the fields of the columns in order, separated by commas. Returns `AllocError` if an allocation fails.
+    /// Returns the fields of the columns, in order and separated by commas. Returns `AllocError` if an allocation fails.
     fn text(&self, alloc: Global) -> Result<String, AllocError>
         ensures is { IfOk result (λ text. string_bytes text ≡ spelling (Keyed.Marked self.now)) }
         ensures marking { IsMarking self.now }
@@ -76,7 +76,7 @@ impl Marked {
         Ok(text)
     }
 
-    /// Returns the marks in these columns, in order.
+    /// Returns the paper with the given marks in the given columns, in order.
     pub(crate) fn new(columns: Columns, marks: [u8; MAX_CANDIDATES]) -> Marked
         requires columns { candidates_of (zip columns marks) ≡ columns }
         requires marks { padded (marks_of (zip columns marks)) ≡ marks }
@@ -102,7 +102,7 @@ impl Marked {
     }
 }
 
-/// Appends a field to a text; every field but the first is preceded by a comma.
+/// Appends a field to a text; every field except the first is preceded by a comma.
 fn push_field(text: &mut String, i: usize, mark: u8) -> Result<(), AllocError>
     ensures { OnOk result (string_bytes text.new ≡ string_bytes text.old ++ field_text i mark) }
 {
@@ -124,7 +124,7 @@ pub(crate) enum Bearers {
 }
 
 impl Bearers {
-    /// Returns the bearers after one more candidate.
+    /// Returns the bearers with another candidate added.
     fn and(self, c: u8) -> Bearers
         ensures { result ≡ one_more self c }
     {

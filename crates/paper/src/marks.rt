@@ -1,4 +1,4 @@
-//! Marks texts.
+//! Parses marks texts.
 
 ghost use Rattle.std.specs.Prelude.{◌≡◌, ℕ, ◌+◌, ◌-◌, ◌<◌, ◌≤◌, ◌==◌, length, take, count_by, OnOk, IfOk, IfErr, Ok, Err};
 ghost use Rattle.std.specs.List.{after_first, before_first, list_all, position_or_len};
@@ -23,8 +23,8 @@ pub enum MarkFault {
 }
 
 impl MarkFault {
-    /// Returns the number of the fault: 1 wrong number of fields, 2 a field that is neither empty nor a number without a leading
-    /// zero, 3 a number above 99.
+    /// Returns the number of the fault: 1 for a wrong number of fields, 2 for a field that is neither empty nor a number without a
+    /// leading zero, and 3 for a number above 99.
     pub fn number(&self) -> u32
         ensures { result ≡ fault_number self.now }
     {
@@ -36,15 +36,15 @@ impl MarkFault {
     }
 }
 
-/// The texts with which clerks key the marks on ballot papers.
+/// The texts that clerks key for the marks on ballot papers.
 pub struct Marks;
 
 impl Marks {
-    /// Parses the marks text of a paper with these columns.
+    /// Parses the marks text of a paper with the given columns.
     ///
-    /// The text of a doubtful paper is the letter `D`. Any other text has one field for each column in ascending order, separated
-    /// by commas; each field is empty or a number from 1 to 99 without a leading zero. A wrong number of fields is reported first,
-    /// then the fault of the leftmost invalid field. Allocates nothing.
+    /// The text of a doubtful paper is the letter `D`. Any other text has one field for each column, in ascending order and
+    /// separated by commas; each field is empty or a number from 1 to 99 without a leading zero. A wrong number of fields is
+    /// reported first, then the fault of the leftmost invalid field. Allocates nothing.
     pub fn read(text: &[u8], columns: Columns) -> Result<Keyed, MarkFault>
         ensures is { result ≡ reading columns text.now }
         // each keyed paper has exactly one spelling
@@ -95,7 +95,7 @@ fn read_fields(text: &[u8], count: usize) -> Result<[u8; MAX_CANDIDATES], MarkFa
     Ok(marks)
 }
 
-/// Splits a text at its first comma; returns the first field, and the text after the comma.
+/// Splits a text at its first comma; returns the first field and the text after the comma.
 fn split_field(text: &[u8]) -> (&[u8], &[u8])
     ensures field { result.0.now ≡ before_first (λ b. b == 44) text.now }
     ensures behind { result.1.now ≡ after_first (λ b. b == 44) text.now }
@@ -115,7 +115,7 @@ fn field_len(text: &[u8]) -> usize
     text.iter().take_while(|b| **b != b',').count()
 }
 
-/// Parses the mark in a field; an empty field is 0.
+/// Parses the mark in a field; an empty field yields 0.
 fn read_field(field: &[u8]) -> Result<u8, MarkFault>
     ensures is { result ≡ mark_in field.now }
     ensures small { IfOk result (λ mark. mark ≤ 99) }

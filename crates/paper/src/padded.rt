@@ -1,4 +1,4 @@
-//! Lists of at most `MAX_CANDIDATES` numbers, stored in arrays: the list, followed by zeros.
+//! Lists of at most `MAX_CANDIDATES` numbers, stored in arrays and padded with zeros.
 
 ghost use Rattle.std.specs.Prelude.{◌≡◌, ◌≤◌, length, take};
 ghost use Rattle.std.specs.Cmp.Lexicographic.{slice_cmp};
@@ -36,7 +36,7 @@ pub fn padded_numbers(list: &[u8]) -> [u8; MAX_CANDIDATES]
     numbers
 }
 
-/// Returns the first eight numbers of an array as one integer, which sorts as they do.
+/// Returns the first eight numbers of an array as a single integer that sorts the same way.
 fn beginning(numbers: &[u8; MAX_CANDIDATES]) -> u64
     ensures { result ≡ number_of (take 8 numbers.now) }
 {
@@ -46,7 +46,7 @@ fn beginning(numbers: &[u8; MAX_CANDIDATES]) -> u64
     ])
 }
 
-/// Compares two arrays. The first eight numbers, which usually decide, are compared in one step.
+/// Compares two arrays. The first eight numbers, which usually decide the result, are compared in one step.
 pub fn padded_cmp(numbers: &[u8; MAX_CANDIDATES], others: &[u8; MAX_CANDIDATES]) -> Ordering
     ensures { result ≡ slice_cmp nat_cmp numbers.now others.now }
 {

@@ -15,8 +15,8 @@ use std::marker::Model;
 
 /// The preferences of a valid ballot paper, modelled as the list of candidate numbers, first preference first, without
 /// duplicates. The order is lexicographic: the first difference decides, and a proper prefix of a list sorts before the list.
-// One byte per candidate: the numbers, followed by zeros instead of a length. No smaller `Copy` type can lend this many numbers
-// as a slice.
+// One byte per candidate: the numbers, padded with zeros instead of storing a length. No smaller `Copy` type can lend this many
+// numbers as a slice.
 #[derive(Clone, Copy, Debug)]
 pub struct Prefs {
     numbers: [u8; MAX_CANDIDATES],
@@ -54,7 +54,7 @@ impl Prefs {
         })
     }
 
-    /// Returns the preferences stored in an array, in which they are followed by zeros.
+    /// Returns the preferences stored in an array, which is padded with zeros.
     pub(crate) fn from_ranking(numbers: [u8; MAX_CANDIDATES]) -> Prefs
         requires whole { padded (listed numbers) ≡ numbers }
         requires some { 1 ≤ length (listed numbers) }
@@ -116,7 +116,8 @@ impl Ord for Prefs {
 
     ghost matches_eq = { texts_ties };
 
-    // No candidate has the number 0, so the arrays sort as their lists do, and there is no need to find where a list ends.
+    // No candidate has the number 0, so the arrays sort in the same order as their lists, and there is no need to find where a
+    // list ends.
     fn cmp(&self, other: &Prefs) -> Ordering {
         padded_cmp(&self.numbers, &other.numbers)
     }

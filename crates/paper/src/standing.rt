@@ -22,8 +22,8 @@ pub enum CandidateStatus {
 /// How many numbers have a status: 0, and every candidate number.
 const NUMBERS: usize = MAX_CANDIDATES + 1;
 
-/// A status for each number from 1 to `MAX_CANDIDATES`, modelled as the list of statuses starting with that of 0. Any other
-/// number is absent.
+/// A status for each number from 1 to `MAX_CANDIDATES`, modelled as the list of statuses, starting with the status of 0.
+/// Any other number is absent.
 #[derive(Clone, Copy, PartialEq, Eq)]
 pub struct Standing {
     statuses: [CandidateStatus; NUMBERS],
@@ -47,7 +47,7 @@ impl Model for Standing {
 }
 
 impl Standing {
-    /// Returns the standing with these continuing, elected and excluded candidates. The sets must be disjoint.
+    /// Returns the standing with the given continuing, elected and excluded candidates. The sets must be disjoint.
     pub fn new(continuing: Columns, elected: Columns, excluded: Columns) -> Standing
         requires elected_apart { AreApart continuing elected }
         requires excluded_apart { AreApart continuing excluded }
@@ -98,7 +98,7 @@ fn give(statuses: &mut [CandidateStatus; NUMBERS], numbers: &Columns, status: Ca
 }
 
 /// Returns the next available preference ("Transfer of ballot papers"): the first preference for a continuing candidate at
-/// place `from` or later, counting from 0.
+/// or after place `from`, counting from 0.
 pub fn next_available(prefs: &[u8], from: usize, standing: &Standing) -> Option<u8>
     ensures { result ≡ next_available_of prefs.now from standing.now }
 {

@@ -28,8 +28,8 @@ pub enum Rejection {
 }
 
 impl Rejection {
-    /// Returns the code of the rejection. Codes 1 and 2 follow from the marks; codes 3 to 5 are decisions of the returning
-    /// officer.
+    /// Returns the code of the rejection. Codes 1 and 2 are determined by the marks; codes 3 to 5 are decisions of the
+    /// returning officer.
     pub fn number(&self) -> u32
         ensures { result ≡ rejection_code self.now }
     {
@@ -64,7 +64,7 @@ pub fn judge(m: &Marked) -> Result<Prefs, Rejection>
     }
 }
 
-/// Returns the preferences of a paper in an array, followed by zeros, given the candidates with each mark.
+/// Returns an array with the preferences of a paper, padded with zeros, given the candidates who have each mark.
 fn preferred(bearers: &[Bearers; NUMBERS]) -> [u8; MAX_CANDIDATES]
     ensures { (m : Marking) → AreBearers m bearers.now → result ≡ padded (preferences m) }
 {

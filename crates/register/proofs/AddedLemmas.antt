@@ -1,4 +1,4 @@
--- Adding the bundles and figures of a ward to a tabulation, one by one.
+-- Adding a ward's bundles and figures to a tabulation, one by one.
 use Rattle.std.proofs.Common.{◌≡◌, ℕ, zero, suc, ◌+◌, ◌<◌, List, [], ◌∷◌, ◌++◌, length, map, take, reverse, refl, sym, ap, ◌∙◌, append_assoc, arith}
 use Rattle.std.proofs.lemmas.List.{reverse-append, length-reverse, length-take}
 use Rattle.count.specs.Books.{placed}
@@ -13,14 +13,14 @@ use Rattle.register.specs.Tabulated.{PlacedEntry, FigureEntry, placed_at, figure
 
 -- ---- bundles
 
--- the places of the lists of bundles, as a book returns them and as they are tabulated
+-- the places of bundles, as a book returns them and as they are tabulated
 abbrev pub lying : (List ℕ → Place) → List Bundle → List Placed
 lying at bs = map (λ (b : Bundle). placed (at b.0)) bs
 
 abbrev pub tabulated : ℕ → (List ℕ → Place) → List Bundle → List PlacedEntry
 tabulated ward at bs = map (λ (b : Bundle). placed_at ward b (at b.0)) bs
 
--- some bundles are already tabulated; these bundles, with known places, remain
+-- some bundles have already been tabulated; the given bundles, whose places are known, remain
 pub record AreLeft (ward : ℕ) (at : List ℕ → Place) (items all : List PlacedEntry) (bs : List Bundle) (places : List Placed) : Type 0 where
   pub lie : places ≡ lying at bs
   pub make : items ++ tabulated ward at bs ≡ all
@@ -28,7 +28,7 @@ pub record AreLeft (ward : ℕ) (at : List ℕ → Place) (items all : List Plac
 same_place : (p q : Placed) (ps qs : List Placed) → p ∷ ps ≡ q ∷ qs → (p ≡ q) × (ps ≡ qs)
 same_place p q ps qs same = (cc, cc)
 
--- a bundle of a ward, with the place that a book returns
+-- a bundle of a ward, with the place returned by a book
 abbrev at_placed : ℕ → Bundle → Placed → PlacedEntry
 at_placed ward b p = record { ward = ward; list = b.0; papers = b.1; holder = p.holder; value = p.value }
 
@@ -44,13 +44,13 @@ one_less ward at items new all b bs p ps entry is pushed left =
 
 -- ---- figures
 
--- the first elements of a list, and one more
+-- the first elements of a list, and the next element
 last_taken : {X : Type 0} (xs : List X) (i : ℕ) → i < length xs → (x : X) × (take (suc i) xs ≡ take i xs ++ x ∷ [])
 last_taken [] i within = absurd (omega arith)
 last_taken (x ∷ xs) zero within = (x, refl)
 last_taken (x ∷ xs) (suc i) within = let later = last_taken xs i (omega arith) in (later.0, ap (λ ys. x ∷ ys) later.1)
 
--- adding the figures of another stage
+-- adding the figures of the next stage
 pub figures_more : (ward : ℕ) (candidates : List ℕ) (stages : List Stage) (i stage : ℕ) (shown : List Figure) (start old new : List FigureEntry) → i < length stages → stage ≡ i + 1
     → shown ≡ figures_at candidates (reverse (take (i + 1) stages))
     → old ≡ start ++ figures_to ward candidates (reverse (take i stages)) → new ≡ old ++ map (figure_at ward stage) shown → new ≡ start ++ figures_to ward candidates (reverse (take (i + 1) stages))

@@ -1,5 +1,5 @@
--- Another stage of a ward's count: the old tabulation and what the stage adds together make up the
--- new tabulation.
+-- When another stage of a ward is counted, the old tabulation and what the stage adds together make up the new
+-- tabulation.
 use Rattle.std.proofs.Common.{◌≡◌, ℕ, suc, ◌+◌, ◌==◌, true, false, cond, not, List, [], ◌∷◌, ◌++◌, length, map, Some, refl, sym, ap, subst, ◌∙◌, append_assoc, arith}
 use Rattle.std.specs.List.{flat_map}
 use Rattle.std.specs.List.Sorted.{IsPermutation}
@@ -27,7 +27,7 @@ use Rattle.register.proofs.TabulationLemmas.{bundles_of_count, told_by, wards_sp
 use Rattle.register.proofs.CountLemmas.{IsStageDue}
 use Rattle.register.proofs.MovedLemmas.{bundled-rise, all_moved, moved-append, of_others, of_ward, others_stay, of_it, of_no_other, moved_there}
 
--- ---- new entries, inserted at the front or in their proper place
+-- ---- new entries, inserted at the front or at their proper position
 
 pub put_between : {X : Type 0} (new front own back : List X) → IsPermutation (new ++ (front ++ (own ++ back))) (front ++ ((own ++ new) ++ back))
 put_between {X} new front own back =
@@ -49,16 +49,16 @@ module _ (e : ElectionEntry) (held : has_count e ≡ true) (done : length (stage
       let more : e.ward.done ≡ suc (length before) = sym done ∙ ap (λ (s : History). length s) is in
       and_from _ _ held (ap not (ne_eqb e.ward.done 0 (λ none. omega (arith, none, more))))
 
-  -- the bundles after the stages done
+  -- the tabulated bundles once stages have been done
   bundles_done : (s : Stage) (before : History) → stages_of e ≡ s ∷ before → bundles_in e ≡ map (placed_after e (s ∷ before)) (bundled e.ballots.papers)
   bundles_done s before is = rw (some_done s before is) (ap (λ (stages : History). map (placed_after e stages) (bundled e.ballots.papers)) is)
 
-  -- the figures of the stages done, which may be empty
+  -- the tabulated figures of the completed stages, possibly none
   figures_done : (stages : History) → stages_of e ≡ stages → figures_in e ≡ figures_to e.ward.number (columns_of e.candidates) stages
   figures_done [] is = rw (none_done is) refl
   figures_done (s ∷ before) is = rw (some_done s before is) (ap (figures_to e.ward.number (columns_of e.candidates)) is)
 
--- ---- one more stage
+-- ---- another stage
 
 module _ (s : OfficeState) (n : ℕ) (w : WardEntry) (is : IsState s) (found : ward_at s n ≡ Some w) where
   abbrev own : ElectionEntry
@@ -85,7 +85,7 @@ module _ (s : OfficeState) (n : ℕ) (w : WardEntry) (is : IsState s) (found : w
       ap (flat_map h) (changed_split (λ (x : WardEntry). x.number) n (at_stage done) w s.wards split)
       ∙ flat_map-append h split.front (at_stage done w ∷ split.back)
 
-  -- ---- bundles of the other wards
+  -- ---- the bundles of the other wards
 
   of_one : (x : WardEntry) → (n == x.number) ≡ false → of_others w.number (bundles_in (election_of s x)) ≡ true
   of_one x other =
@@ -112,7 +112,7 @@ module _ (s : OfficeState) (n : ℕ) (w : WardEntry) (is : IsState s) (found : w
   unfolding back_of
   back_stays ms moved = others_stay w.number ms (back_of bundles_in) moved (of_some split.back split.behind)
 
-  -- ---- the stage due
+  -- ---- the stage that is due
 
   module _ (action : Action) (due : IsStageDue s n w action) where
     abbrev new : Stage
@@ -141,7 +141,7 @@ module _ (s : OfficeState) (n : ℕ) (w : WardEntry) (is : IsState s) (found : w
         ∙ ap (λ (fs : List FigureEntry). front_of figures_in ++ (fs ++ back_of figures_in))
         (figures_done (at_stage_of (w.done + 1) own) due.contested long (new ∷ before) (added ∙ ap (λ (h : History). new ∷ h) same))
 
-    -- the figures of the stage are added to the existing ones
+    -- the figures of the new stage are added to the existing ones
     figures_come : (before : History) → stages_of own ≡ before → IsPermutation (figures_added own before new ++ told_by figures_in s) (told_by figures_in later)
     figures_come before same =
         let was : told_by figures_in s ≡ front_of figures_in ++ (figures_to w.number (columns_of own.candidates) before ++ back_of figures_in) =
@@ -149,7 +149,7 @@ module _ (s : OfficeState) (n : ℕ) (w : WardEntry) (is : IsState s) (found : w
         in
         rw (was, figures_after before same) (put_between (figures_added own before new) (front_of figures_in) (figures_to w.number (columns_of own.candidates) before) (back_of figures_in))
 
-    -- at the first stage, all bundles are added
+    -- at the first stage, all the ward's bundles are added
     bundles_come : stages_of own ≡ [] → IsPermutation (map (placed_after own (new ∷ [])) (bundled own.ballots.papers) ++ told_by bundles_in s) (told_by bundles_in later)
     bundles_come none =
         let was : told_by bundles_in s ≡ front_of bundles_in ++ ([] ++ back_of bundles_in) =
@@ -157,7 +157,7 @@ module _ (s : OfficeState) (n : ℕ) (w : WardEntry) (is : IsState s) (found : w
         in
         rw (was, bundles_after [] none) (put_between (map (placed_after own (new ∷ [])) (bundled own.ballots.papers)) (front_of bundles_in) [] (back_of bundles_in))
 
-    -- at a later stage, the bundles are moved
+    -- at a later stage, bundles are moved
     bundles_move : (r : Stage) (before : History) → stages_of own ≡ r ∷ before
         → all_moved (told_by bundles_in s) (map (placed_after own (new ∷ r ∷ before)) (moved_between own (r ∷ before) (new ∷ r ∷ before))) ≡ told_by bundles_in later
     bundles_move r before same =
@@ -176,7 +176,7 @@ module _ (s : OfficeState) (n : ℕ) (w : WardEntry) (is : IsState s) (found : w
         ∙ ap (λ (xs : List PlacedEntry). map (placed_after own (new ∷ r ∷ before)) (bundled own.ballots.papers) ++ xs) (back_stays ms moved))
         ∙ sym (bundles_after (r ∷ before) same)
 
-    -- With what the stage adds, the tabulation is that of the next state.
+    -- Applying what the stage adds to the tabulation yields the tabulation of the next state.
     pub stage_tabulated : SameTabulation (with_addition (addition_at own action) (tabulation_of s)) (tabulation_of later)
     unfolding tabulation_of
     stage_tabulated = go (stages_of own) refl

@@ -9,7 +9,7 @@ use Rattle.register.specs.Polls.{settled_with, settled_papers}
 
 -- ---- two and three keyings
 
--- of two keyings, which may be empty, the first is agreed if both are equal
+-- the first of two keyings, either of which may be missing, is agreed if they are equal
 agreed_two : (b c : List KeyedEntry) → agreed (filter is_keyed (b ∷ c ∷ [])) ≡ cond (is_keyed b && same_marks b c) b []
 unfolding same_marks
 agreed_two [] [] = refl
@@ -17,7 +17,7 @@ agreed_two [] (z ∷ zs) = refl
 agreed_two (y ∷ ys) [] = refl
 agreed_two (y ∷ ys) (z ∷ zs) = elim (same_marks (y ∷ ys) (z ∷ zs)) as (λ e. cond (e || false) (y ∷ ys) [] ≡ cond e (y ∷ ys) []) [ true ↦ refl | false ↦ refl ]
 
--- whether an existing keying equals one of the two after it
+-- whether an existing keying equals either of the two after it
 equal_behind : (k : KeyedEntry) (ks b c : List KeyedEntry) → list_any (same_marks (k ∷ ks)) (filter is_keyed (b ∷ c ∷ [])) ≡ (same_marks (k ∷ ks) b || same_marks (k ∷ ks) c)
 unfolding same_marks
 equal_behind k ks [] [] = refl
@@ -25,15 +25,15 @@ equal_behind k ks [] (z ∷ zs) = elim (same_marks (k ∷ ks) (z ∷ zs)) as (λ
 equal_behind k ks (y ∷ ys) [] = refl
 equal_behind k ks (y ∷ ys) (z ∷ zs) = ap (λ e. same_marks (k ∷ ks) (y ∷ ys) || e) (elim (same_marks (k ∷ ks) (z ∷ zs)) as (λ e. (e || false) ≡ e) [ true ↦ refl | false ↦ refl ])
 
--- of three keyings, the first is agreed if a later one equals it; otherwise the result is that of the other
--- two
+-- the first of three keyings is agreed if a later one equals it; otherwise the result is the same as for the
+-- other two
 pub agreed_three : (a b c : List KeyedEntry) → agreed (of_three a b c) ≡ cond (is_keyed a && (same_marks a b || same_marks a c)) a (cond (is_keyed b && same_marks b c) b [])
 agreed_three [] b c = agreed_two b c
 agreed_three (k ∷ ks) b c =
     ap (λ (e : Bool). cond e (k ∷ ks) (agreed (filter is_keyed (b ∷ c ∷ [])))) (equal_behind k ks b c)
     ∙ ap (λ (js : List KeyedEntry). cond (same_marks (k ∷ ks) b || same_marks (k ∷ ks) c) (k ∷ ks) js) (agreed_two b c)
 
--- of two keyings that are taken, the first is agreed
+-- if a batch with two keyings is taken, the first keying is agreed
 two_taken : (b c : List KeyedEntry) → are_taken (filter is_keyed (b ∷ c ∷ [])) ≡ true → agreed (filter is_keyed (b ∷ c ∷ [])) ≡ b
 two_taken b c taken = agreed_two b c ∙ go (is_keyed b && same_marks b c) (ap is_keyed (sym (agreed_two b c)) ∙ taken)
   where
@@ -43,7 +43,7 @@ two_taken b c taken = agreed_two b c ∙ go (is_keyed b && same_marks b c) (ap i
 
 -- ---- any number of keyings
 
--- the agreed keying passes a test if every keying does and, in case no two agree, the empty keying does too
+-- the agreed keying passes a test if every keying does and, if no two keyings agree, the empty keying does too
 pub agreed_passes : (p : List KeyedEntry → Bool) (ks : List (List KeyedEntry)) → list_all p ks ≡ true → (are_taken ks ≡ false → p [] ≡ true) → p (agreed ks) ≡ true
 agreed_passes p [] all none = none refl
 agreed_passes p (k ∷ ks) all none = go (list_any (same_marks k) ks) (λ left. agreed_passes p ks (and_parts (p k) (list_all p ks) all).1 left) none
@@ -52,9 +52,9 @@ agreed_passes p (k ∷ ks) all none = go (list_any (same_marks k) ks) (λ left. 
     go true later left = (and_parts (p k) (list_all p ks) all).0
     go false later left = later left
 
--- ---- the papers of a taken batch
+-- ---- the papers in a taken batch
 
--- without a third clerk, the papers are those of the lower-numbered clerk
+-- without a third clerk, the agreed papers are those keyed by the lower-numbered clerk
 pub taken_settled : (s : OfficeState) (b : BatchEntry) → is_taken s b ≡ true → taken_papers s b ≡ settled_papers s b
 taken_settled s b taken = go (third_at s b.number) refl
   where

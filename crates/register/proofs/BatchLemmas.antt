@@ -1,4 +1,4 @@
--- If there is no objection to a command for a batch, it leads from a state to a state, and leaves a receipt in range.
+-- If there is no objection to a batch command, applying it to a state yields a state, and its receipt is in range.
 use Rattle.std.proofs.Common.{rules, inl, inr, ◌≡◌, ℕ, suc, Bool, true, false, cond, not, ◌&&◌, ◌||◌, ◌==◌, ◌++◌, nat_le, codes, List, [], Option, Some, None, is_some, option_map, refl, sym}
 use Rattle.std.proofs.Common.{ap, subst, ◌∙◌, arith}
 use Rattle.std.specs.Fmt.{decimal}
@@ -44,7 +44,7 @@ found_in_range {s} is n b found = let batches = maps_of is batch_map in batch_pa
 -- ---- a new batch
 
 module _ (s : OfficeState) (b : BatchEntry) (is : IsState s) (new : batch_at s b.number ≡ None) where
-  -- no paper of the batch has been keyed
+  -- none of the batch's papers has been keyed
   unkeyed : (round clerk : ℕ) → keying_of s b.number round clerk ≡ []
   unkeyed round clerk = filter_none _ s.keyings (list_all_weaker _ _ s.keyings (λ k keyed. go k (k.batch == b.number) refl keyed) (and_parts _ _ is.keyed).0)
     where
@@ -55,7 +55,7 @@ module _ (s : OfficeState) (b : BatchEntry) (is : IsState s) (new : batch_at s b
           let none : batch_at s k.batch ≡ None = ap (batch_at s) (eqb-true k.batch b.number same) ∙ new in
           absurd (let lost = rw none at keyed in cc)
 
-  -- no paper of the batch has been judged
+  -- none of the batch's papers has been judged
   unjudged : verdicts_of s b.number ≡ []
   unjudged = filter_none _ s.verdicts (list_all_weaker _ _ s.verdicts (λ v placed. go v (v.batch == b.number) refl placed) (and_parts _ _ is.judged).0)
     where
@@ -83,8 +83,8 @@ module _ (s : OfficeState) (b : BatchEntry) (is : IsState s) (new : batch_at s b
       go None found set = absurd (cc)
       go (Some x) found set = rw (found_put_still (λ (x : BatchEntry). x.number) s.batches b t.batch x new found) set
 
-  -- adding a batch that has a new number, is in range, is in its first round, and is given out leads to a
-  -- state
+  -- adding a batch yields a state if its number is new, it is in range, it is in its first round, and it is given
+  -- out
   pub added_stays : IsBeforeCount s (batch_added b) → is_batch b ≡ true → b.round ≡ 1 → is_given_out s b ≡ true → IsState (with_effect (batch_added b) s)
   added_stays before good first out =
       let keyed = and_parts _ _ is.keyed in
@@ -116,7 +116,7 @@ module _ (s : OfficeState) (b : BatchEntry) (is : IsState s) (new : batch_at s b
 
 -- ---- a batch in its next round
 
--- in any round, a batch has the same number and is in range
+-- moving a batch to another valid round leaves its number unchanged and keeps it in range
 in_range_still : (round : ℕ) → is_round round ≡ true → (x : BatchEntry) → is_batch x ≡ true → is_batch (in_round round x) ≡ true
 unfolding is_batch
 in_range_still round good x fine =
@@ -127,7 +127,7 @@ same_batch : (round : ℕ) → is_round round ≡ true → Keeps is_batch batch_
 same_batch round good = record { passes = in_range_still round good; before = λ x y. refl; behind = λ x y. refl }
 
 module _ (s : OfficeState) (n : ℕ) (b : BatchEntry) (is : IsState s) (found : batch_at s n ≡ Some b) (unequal : differ (keyings_now s b) ≡ true) where
-  -- no paper has been keyed in the next round yet
+  -- no paper has been keyed yet in the next round
   unopened : (clerk : ℕ) → keying_of s b.number (suc b.round) clerk ≡ []
   unopened clerk = filter_none _ s.keyings (list_all_weaker _ _ s.keyings (λ k keyed. go k (k.batch == b.number) refl (k.round == suc b.round) refl keyed) (and_parts _ _ is.keyed).0)
     where
@@ -143,7 +143,7 @@ module _ (s : OfficeState) (n : ℕ) (b : BatchEntry) (is : IsState s) (found : 
           let round = eqb-true k.round (suc b.round) next in
           absurd (omega (arith, up, round))
 
-  -- the rounds before the next one are whole, and their keyings differ
+  -- the rounds before the next one are complete, and the keyings in each of them differ
   module _ (bs : List BatchEntry) where
     earlier_round : (m : ℕ) → is_round_of s b m ≡ true → is_round_of (record s { batches = bs }) (in_round (suc b.round) b) m ≡ true
     earlier_round m holds =
@@ -171,7 +171,7 @@ module _ (s : OfficeState) (n : ℕ) (b : BatchEntry) (is : IsState s) (found : 
         ∙ and_from _ _ (rw (none_keyed (keying_of s b.number (suc b.round)) (clerks_of s b) unopened) (rw reached refl))
         (rounds_from s (record s { batches = bs }) b (in_round (suc b.round) b) b.round earlier_round own)
 
-  -- the batch isn't taken, so none of its papers is judged
+  -- the batch isn't taken, so none of its papers has been judged
   untaken : is_taken s b ≡ false
   untaken = not-true (are_taken (keyings_now s b)) (and_parts _ _ unequal).1
 
@@ -186,7 +186,7 @@ module _ (s : OfficeState) (n : ℕ) (b : BatchEntry) (is : IsState s) (found : 
       go None set = set
       go (Some x) set = up x (is_eq (batch_compared n x)) set
 
-  -- its keyed papers are in a round no later than the next one
+  -- the batch's keyed papers are in rounds no later than the next one
   keyed_for_next : (k : KeyedEntry) → is_keyed_for s k (batch_at s k.batch) ≡ true → is_keyed_for s k (batch_at (with_effect (batch_reopened n (suc b.round)) s) k.batch) ≡ true
   keyed_for_next k = rw (changed_at (batch_compared n) (batch_compared k.batch) (in_round (suc b.round)) (λ x. refl) s.batches) (go (batch_at s k.batch) refl)
     where
@@ -206,7 +206,7 @@ module _ (s : OfficeState) (n : ℕ) (b : BatchEntry) (is : IsState s) (found : 
       go None at keyed = keyed
       go (Some x) at keyed = up x at (is_eq (batch_compared n x)) refl keyed
 
-  -- every batch passes a test if this batch passes it in its next round, and the others pass a test that
+  -- every batch passes a test if this batch passes it in its next round, and every other batch passes a test that
   -- implies it
   next_all : (p q : BatchEntry → Bool) → q (in_round (suc b.round) b) ≡ true → ((x : BatchEntry) → p x ≡ true → q x ≡ true) → list_all p s.batches ≡ true
       → list_all q (changed (batch_compared n) (in_round (suc b.round)) s.batches) ≡ true
@@ -226,7 +226,7 @@ module _ (s : OfficeState) (n : ℕ) (b : BatchEntry) (is : IsState s) (found : 
       let own = found_passes (batch_compared n) (λ (x : BatchEntry). is_judged s x (verdicts_of s x.number)) b s.batches parts.1 found in
       rw (no_verdicts s b untaken (verdicts_of s b.number) own) refl
 
-  -- moving the batch to its next round leads to a state, if that round is in range
+  -- moving the batch to its next round yields a state, provided that the round is in range
   next_stays : IsBeforeCount s (batch_reopened n (suc b.round)) → is_round (suc b.round) ≡ true → IsState (with_effect (batch_reopened n (suc b.round)) s)
   next_stays before good =
       let keyed = and_parts _ _ is.keyed in
@@ -270,7 +270,7 @@ module _ (s : OfficeState) (n : ℕ) (b : BatchEntry) (is : IsState s) (found : 
 
 module _ (s : OfficeState) (t : ThirdEntry) (b : BatchEntry) (is : IsState s) (found : batch_at s t.batch ≡ Some b) (new : third_at s t.batch ≡ None)
     (other : is_its_clerk t.clerk b None ≡ false) where
-  -- the third clerk hasn't keyed anything of the batch
+  -- the third clerk hasn't keyed anything for the batch
   unkeyed_yet : (round : ℕ) → keying_of s t.batch round t.clerk ≡ []
   unkeyed_yet round = filter_none _ s.keyings (list_all_weaker _ _ s.keyings (λ k keyed. go k (k.batch == t.batch) refl (k.clerk == t.clerk) refl keyed) (and_parts _ _ is.keyed).0)
     where
@@ -290,7 +290,7 @@ module _ (s : OfficeState) (t : ThirdEntry) (b : BatchEntry) (is : IsState s) (f
   abbrev with_third : OfficeState
   with_third = with_effect (third_set t) s
 
-  -- the batch is assigned to the third clerk, and every other batch has the same third clerk as before
+  -- the third clerk is assigned to this batch, and the third clerks of all other batches are unchanged
   set_there : third_at with_third t.batch ≡ Some t
   set_there = found_put third_total t s.thirds new
 
@@ -312,11 +312,11 @@ module _ (s : OfficeState) (t : ThirdEntry) (b : BatchEntry) (is : IsState s) (f
           ∙ put_unkeyed (keying_of s x.number round) t.clerk (two_clerks x) unkeyed_by
           ∙ ap (λ (o : Option ThirdEntry). keyed_by (keying_of s x.number round) (clerks x o)) (sym none)
 
-  -- so is the file of every batch
+  -- the file of every batch is unchanged, too
   same_file : (x : BatchEntry) → HasSameFile s with_third x
   same_file x = record { candidates = refl; keyings = same_keyings x; verdicts = refl }
 
-  -- keyed papers are still by clerks of their batches
+  -- keyed papers still belong to clerks of their batches
   keyed_for_still : (k : KeyedEntry) → is_keyed_for s k (batch_at s k.batch) ≡ true → is_keyed_for with_third k (batch_at s k.batch) ≡ true
   keyed_for_still k = go (batch_at s k.batch)
     where
@@ -374,7 +374,7 @@ module _ (s : OfficeState) (t : ThirdEntry) (b : BatchEntry) (is : IsState s) (f
 
 -- ---- each command
 
--- the subjects of receipts for the commands for a batch
+-- the subjects of receipts for batch commands
 batch_about : (n : ℕ) → is_batch_number n ≡ true → is_office_subject (codes "batch " ++ decimal n) ≡ true
 unfolding is_office_subject
 batch_about n h = rw (is_plain-decimal last_batch n (omega arith) h) refl
@@ -387,7 +387,7 @@ third_about : (n : ℕ) → is_batch_number n ≡ true → is_office_subject (co
 unfolding is_office_subject
 third_about n h = rw (is_plain-decimal last_batch n (omega arith) h) refl
 
--- a ward in keying is contested, so a batch of it with two different clerks is given out
+-- a ward in keying is contested, so any of its batches that has two different clerks is given out
 keying_given_out : (s : OfficeState) (ward : ℕ) (w : WardEntry) (first second : ℕ) → IsState s → ward_at s ward ≡ Some w → w.phase ≡ Keying → (first == second) ≡ false
     → (not (first == second) && is_polled (ward_at s ward) (candidates_of s ward)) ≡ true
 keying_given_out s ward w first second is found phased other =
@@ -398,7 +398,7 @@ keying_given_out s ward w first second is found phased other =
     in
     rw (other, found) (rw phased contested)
 
--- the round after any but the last
+-- the next round, unless the batch is in its last round
 next_after : (b : BatchEntry) → not (is_in_last_round b) ≡ true → next_round (Some b) ≡ suc b.round
 next_after b more = rw (not-true (is_in_last_round b) more) (omega arith)
 
@@ -408,7 +408,7 @@ next_in_range b round next parts more =
     let high = leb-false last_round b.round (not-true (is_in_last_round b) more) in
     and_from _ _ (le-leb 1 round (omega (arith, next))) (le-leb round last_round (omega (arith, next, high)))
 
--- the numbers of a new batch are in range
+-- if there is no objection to a new batch, its numbers are in range
 batch_from : (batch ward size first_clerk second_clerk : ℕ) → (is_batch_number batch && (is_ward_number ward && (is_paper_number size && (is_clerk first_clerk && is_clerk second_clerk)))) ≡ true
     → is_batch (record { number = batch; ward = ward; size = size; first_clerk = first_clerk; second_clerk = second_clerk; round = 1 }) ≡ true
 unfolding is_batch

@@ -1,5 +1,5 @@
--- Batches, computed: the refusals of commands for a batch, a keying and a verdict; the status of the ward; and which of the
--- offices are states.
+-- Examples of batches, checked by computation: the refusals of batch commands, keyings and verdicts; the status of the
+-- ward; and which of the offices are states.
 use Rattle.std.proofs.Common.{ℕ, true, false, ◌≡◌, List, [], ◌∷◌, map, codes, refl, string_bytes, Some, ◌++◌}
 use Rattle.std.specs.Fmt.{digits}
 use Rattle.std.specs.declared.string.String.{String}
@@ -26,14 +26,14 @@ use Rattle.register.specs.Verdicts as verdicts
 use Rattle.register.specs.Machine.{accepted, refused, step, decided}
 use Rattle.register.specs.Status.{status_at}
 
--- the batch of two papers of ward Harbour that clerks 4 and 9 key, in this round; and another batch
+-- the batch with two papers from Harbour ward, keyed by clerks 4 and 9, in the given round; and another batch
 abbrev batch_in : ℕ → BatchEntry
 batch_in round = record { number = 12; ward = 7; size = 2; first_clerk = 4; second_clerk = 9; round = round }
 
 abbrev other_batch : BatchEntry
 other_batch = record { number = 13; ward = 7; size = 1; first_clerk = 9; second_clerk = 4; round = 1 }
 
--- an office with both batches, their ward in this phase, and these keyed papers, verdicts and receipts
+-- an office with both batches, their ward in the given phase, and the given keyed papers, verdicts and receipts
 abbrev with_batch : Phase → ℕ → List KeyedEntry → List JudgedEntry → List ReceiptEntry → OfficeState
 with_batch phase round papers judged receipts =
     record {
@@ -47,11 +47,11 @@ with_batch phase round papers judged receipts =
       receipts = receipts;
     }
 
--- the two papers of the batch as keyed by a clerk in the first round; the second paper is keyed as doubtful
+-- the two papers of the batch as keyed by the given clerk in the first round; the second paper is keyed as doubtful
 abbrev keyed : ℕ → List ℕ → List KeyedEntry
 keyed clerk marks = record { batch = 12; round = 1; clerk = clerk; paper = 1; marks = marks } ∷ record { batch = 12; round = 1; clerk = clerk; paper = 2; marks = codes "D" } ∷ []
 
--- the receipt of a clerk's request with id k1
+-- the receipt for the given clerk's request, with id k1
 abbrev key_receipt : ℕ → ReceiptEntry
 key_receipt clerk = record { actor = clerk; id = codes "k1"; subject = codes "key 12 1"; reply = codes "batch 12 round 1 keyed" }
 
@@ -88,7 +88,7 @@ one_clerk = refl
 
 -- ---- keyings
 
--- after the first clerk's keying; and after the second clerk's, equal or not
+-- after the first clerk's keying, and after the second clerk's keying, which may or may not be equal to the first
 abbrev once : OfficeState
 once = with_batch Keying 1 (keyed 4 (codes "1,2,")) [] (key_receipt 4 ∷ [])
 
@@ -96,7 +96,7 @@ abbrev twice : List ℕ → List JudgedEntry → OfficeState
 twice marks judged = with_batch Keying 1 (keyed 4 (codes "1,2,") ++ keyed 9 marks) judged (key_receipt 4 ∷ key_receipt 9 ∷ [])
 
 module _ (papers : Vec (String Global) Global) where
-  -- a clerk's command that keys a batch in a round
+  -- a command with which a clerk keys a batch in a round
   abbrev keys : ℕ → ℕ → Command
   keys batch round = commands.Keying (record { batch = batch; round = round; papers = papers })
 
@@ -146,7 +146,7 @@ no_further_round = refl
 
 -- ---- doubtful papers
 
--- a verdict on a paper of the batch
+-- a verdict on one of the batch's papers
 abbrev judge : ℕ → Verdict → Command
 judge paper verdict = commands.Verdict (record { batch = 12; paper = paper; verdict = verdict })
 
@@ -186,7 +186,7 @@ judged_already : step (twice (codes "1,2,") (record { batch = 12; paper = 2; cod
 unfolding step decided is_id verdicts.subject_of same_marks digits
 judged_already = refl
 
--- ---- which of these are states
+-- ---- which of the offices are states
 
 in_nominations : all_given_out (with_batch Nominations 1 [] [] []) ≡ false
 in_nominations = refl

@@ -11,7 +11,7 @@ use Rattle.register.specs.Marks.{columns_of}
 use Rattle.register.specs.Polls.{PollEntry, poll_of}
 use Rattle.register.specs.Elections.{ElectionEntry, contest_of}
 
--- the poll of papers in bundles is that of the papers
+-- the poll computed from bundles is the poll of their papers
 pub poll-alike : (e : ElectionEntry) (valid seats quota : ℕ) (bundles : List Bundle) (rejected : List ℕ) (settled : Bool) → bundles ≡ bundled e.ballots.papers → valid ≡ length (papers_of bundles) →
     rejected ≡ e.ballots.rejected → settled ≡ e.ballots.settled → seats ≡ e.ward.seats → quota ≡ quota_of valid seats →
     (let told : PollEntry = record { valid = valid; rejected = rejected; quota = quota; settled = settled } in told) ≡ poll_of e.ward.seats e.ballots
@@ -24,14 +24,14 @@ poll-alike e valid seats quota bundles rejected settled held number were was sat
         (let one : PollEntry = record { valid = v; rejected = r; quota = q; settled = t } in one) ≡ record { valid = w; rejected = s; quota = p; settled = u }
     same v w r s q p t u a b c d = rw (a, b, c, d) refl
 
--- The contest on the papers that an election's bundles represent.
+-- The contest with the papers that an election's bundles contain.
 module _ (e : ElectionEntry) (candidates : List ℕ) (seats : ℕ) (bundles : List Bundle) (columns : candidates ≡ columns_of e.candidates) (sat : seats ≡ e.ward.seats)
     (held : bundles ≡ bundled e.ballots.papers) where
-  -- the contest on these papers
+  -- the contest with these papers
   on_bundles : contest_for candidates seats (papers_of bundles) ≡ contest_for (columns_of e.candidates) e.ward.seats (papers_of (bundled e.ballots.papers))
   on_bundles = rw (columns, sat, held) refl
 
-  -- the contest on the bundles can be held if the contest on the papers can
+  -- the contest with the bundles can be held if the contest with the papers can
   pub fair-alike : IsContest (contest_of e) → IsContest (contest_for candidates seats (papers_of bundles))
   fair-alike fair = subst IsContest (sym on_bundles) (contest-bundled (columns_of e.candidates) e.ward.seats e.ballots.papers fair)
 
@@ -39,13 +39,13 @@ module _ (e : ElectionEntry) (candidates : List ℕ) (seats : ℕ) (bundles : Li
     pub other_order : contest ≡ reordered (contest_of e) (papers_of (bundled e.ballots.papers))
     other_order = on ∙ on_bundles ∙ sym (contest-reordered (columns_of e.candidates) e.ward.seats e.ballots.papers)
 
-    -- it has the same stages
+    -- the contest with the bundles has the same stages
     pub stages-alike : (k : ℕ) → stages_to contest lots k ≡ stages_to (contest_of e) e.lots k
     stages-alike k =
         ap (λ (c : Contest). stages_to c lots k) (on ∙ on_bundles)
         ∙ ap (λ ls. stages_to (contest_for (columns_of e.candidates) e.ward.seats (papers_of (bundled e.ballots.papers))) ls k) drawn
         ∙ stages-bundled (columns_of e.candidates) e.ward.seats e.ballots.papers e.lots k
 
-    -- the same is due after each stage
+    -- what is due after each stage is the same
     pub due-alike : (k : ℕ) → due_after contest (stages_to contest lots k) ≡ due_after (contest_of e) (stages_to (contest_of e) e.lots k)
     due-alike k = ap (λ (c : Contest). due_after c (stages_to contest lots k)) other_order ∙ ap (due_after (contest_of e)) (stages-alike k)

@@ -1,4 +1,5 @@
--- If there is no objection to a command for a candidate, it leads from a state to a state, and leaves a receipt in range.
+-- If there is no objection to a candidate command, applying it to a state yields a state, and its receipt is in
+-- range.
 use Rattle.std.proofs.Common.{rules, ◌≡◌, ℕ, ◌<◌, true, ◌&&◌, ◌++◌, codes, List, None, string_bytes, refl, arith}
 use Rattle.std.specs.Fmt.{decimal}
 use Rattle.std.proofs.lemmas.Bool.{and_parts, and_from}
@@ -19,7 +20,7 @@ use Rattle.register.proofs.ItemLemmas.{IsFit, office_about}
 use Rattle.register.proofs.NominationLemmas.{added_before, withdrawn_before, candidate_stays, withdrawn_stays}
 use Rattle.register.proofs.TabulationLemmas.{tabulation_kept}
 
--- the subjects of receipts for the commands for a candidate
+-- the subjects of receipts for candidate commands
 candidate_about : (m n : ℕ) → is_ward_number m ≡ true → is_candidate_number n ≡ true → is_office_subject (codes "candidate " ++ (decimal m ++ (codes " " ++ decimal n))) ≡ true
 unfolding is_office_subject
 candidate_about m n h k = rw (are_plain-decimals last_ward max_candidates m n (omega arith) (omega arith) h k) refl
@@ -28,7 +29,7 @@ withdraw_about : (m n : ℕ) → is_ward_number m ≡ true → is_candidate_numb
 unfolding is_office_subject
 withdraw_about m n h k = rw (are_plain-decimals last_ward max_candidates m n (omega arith) (omega arith) h k) refl
 
--- the numbers of a ward and a candidate, separated by a space, are a line; so is a reply that contains both
+-- the numbers of a ward and a candidate, separated by a space, form a line; so does a reply that contains them
 module _ (ward candidate : ℕ) (good : is_ward_number ward ≡ true) (fine : is_candidate_number candidate ≡ true) where
   both : IsLine 21 (decimal ward ++ (codes " " ++ decimal candidate))
   both = line_append (line_number last_ward ward (omega arith) good) (line_append (words (codes " ") (search rules) refl) (line_number max_candidates candidate (omega arith) fine))
@@ -41,7 +42,7 @@ module _ (ward candidate : ℕ) (good : is_ward_number ward ≡ true) (fine : is
       in
       line_reply (line_append (words (codes "candidate ") (search rules) refl) numbered) (omega (arith, short))
 
--- every command, if there is no objection to it
+-- every candidate command to which there is no objection
 pub candidate_fits : (s : OfficeState) (actor : ℕ) (command : CandidateCommand) → IsState s → first_reason (objections actor command (part_of s actor command)) ≡ None
     → IsFit s actor (effect_of command (part_of s actor command)) (subject_of command) (reply_to command (part_of s actor command))
 unfolding subject_of reply_to is_candidate

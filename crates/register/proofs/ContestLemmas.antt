@@ -52,13 +52,13 @@ columns_set columns (c ∷ cs) set = columns_set (and_column columns c) cs (go (
         with_column-IsCandidateSet columns c.number (leb-true 1 c.number parts.0) (leb-true c.number 30 parts.1) set
     go false is = set
 
--- the columns of any candidates are a set of candidate numbers
+-- the columns of any list of candidates are a set of candidate numbers
 pub columns_are_set : (cs : List CandidateEntry) → IsCandidateSet (columns_of cs)
 columns_are_set cs = columns_set [] cs (columns_from_ascends 0 [] tt)
 
 -- ---- every preference is for a candidate
 
--- numbers that are all among these columns
+-- all the given numbers are among the given columns
 abbrev AreAmong : List ℕ → List ℕ → Type 0
 AreAmong columns cs = AllByRecursion (λ c. In c columns) cs
 
@@ -66,7 +66,7 @@ each_append : {X : Type 0} (P : X → Type 0) (xs ys : List X) → AllByRecursio
 each_append P [] ys first second = second
 each_append P (x ∷ xs) ys first second = (first.0, each_append P xs ys first.1 second)
 
--- a candidate whose field has a given number has a column
+-- a candidate whose field contains the given number has a column
 marked_in : (columns marks : List ℕ) (n c : ℕ) → In c (marked_with n (zip columns marks)) → In c columns
 marked_in [] marks n c found = found
 marked_in (column ∷ columns) [] n c found = absurd (cc)
@@ -92,7 +92,8 @@ preferred_in columns marks (suc most) n = go (marked_with n (zip columns marks))
     go (c ∷ []) each behind = (each c (or_left (nat_eq c c) false (eq-eqb c c refl)), behind)
     go (c ∷ d ∷ cs) each behind = tt
 
--- a property of the preferences of any valid marks in these columns is a property of the preferences in every judgement
+-- if a property holds for the preferences of all valid marks in the given columns, it holds for the preferences in
+-- every judgement
 module _ (columns : List ℕ) (P : List ℕ → Type 0) (each : (marks : List ℕ) → rejection_of (zip columns marks) ≡ None → P (preferences (zip columns marks))) where
   abbrev Gives : Judgement → Type 0
   Gives judgement = AllByRecursion P (preferences_by judgement)
@@ -143,7 +144,7 @@ module _ (columns : List ℕ) (P : List ℕ → Type 0) (each : (marks : List �
 pub papers_are_fair : (columns : List ℕ) (piles : List Pile) → AreForCandidates columns (ballots_in columns piles).papers
 papers_are_fair columns piles = papers_given columns (AreAmong columns) (λ marks valid. preferred_in columns marks 30 1) piles
 
--- the columns of some marks are a prefix of the columns
+-- the columns that have marks are a prefix of the columns
 first_columns : (low : ℕ) (columns marks : List ℕ) → Ascends low columns → Ascends low (marking.candidates_of (zip columns marks))
 first_columns low [] marks up = tt
 first_columns low (column ∷ columns) [] up = tt
@@ -172,7 +173,7 @@ preferred_some marking valid = go (marked_with 1 marking) valid
 pub papers_have_some : (columns : List ℕ) (piles : List Pile) → AllByRecursion (λ paper. 1 ≤ length paper) (ballots_in columns piles).papers
 papers_have_some columns piles = papers_given columns (λ paper. 1 ≤ length paper) (λ marks valid. preferred_some (zip columns marks) valid) piles
 
--- ---- the papers are within the limit
+-- ---- the number of papers is within the limit
 
 few_by : (js : List Judgement) → length (flat_map preferences_by js) ≤ length js
 few_by [] = omega arith
@@ -183,7 +184,7 @@ few_by (j ∷ js) = omega (arith, length-append (preferences_by j) (flat_map pre
     one (Rejected code) = omega arith
     one Open = omega arith
 
--- a batch doesn't have more agreed papers than its size
+-- a batch has at most as many agreed papers as its size
 whole_few : (size : ℕ) (ks : List (List KeyedEntry)) → list_all (is_whole size) ks ≡ true → length (agreed ks) ≤ size
 whole_few size [] whole = omega arith
 whole_few size (k ∷ ks) whole = elim (list_any (same_marks k) ks) as (λ b. length (cond b k (agreed ks)) ≤ size) [
@@ -191,7 +192,7 @@ whole_few size (k ∷ ks) whole = elim (list_any (same_marks k) ks) as (λ b. le
   | false ↦ whole_few size ks (and_parts (is_whole size k) (list_all (is_whole size) ks) whole).1
 ]
 
--- the keyings of a batch's current round are whole
+-- the keyings in a batch's current round are complete
 pub round_now : (s : OfficeState) (b : BatchEntry) → is_batch b ≡ true → are_rounds_to s b b.round ≡ true → is_round_of s b b.round ≡ true
 round_now s b fine rounds = round_at s b b.round (lower 1 99 b.round (batch_parts b fine).round) rounds
 
@@ -225,7 +226,7 @@ few_among s columns (b ∷ bs) fine rounds =
       few_among s columns bs good.1 all.1,
     )
 
--- a list of ascending numbers isn't longer than its highest number
+-- a list of distinct numbers in ascending order isn't longer than its highest number
 few_rising : (low : ℕ) (bs : List BatchEntry) → low ≤ 9999 → AllByRecursion (λ b. low < b.number) bs → list_all is_batch bs ≡ true → IsStrictlySortedBy batch_cmp bs → low + length bs ≤ 9999
 unfolding IsStrictlySortedBy
 few_rising low [] few above fine up = omega (arith, few)
@@ -244,7 +245,7 @@ few_batches bs fine up = omega (arith, few_rising 0 bs (omega arith) (some bs fi
     some [] good = tt
     some (c ∷ cs) good = (number_some c (and_parts _ _ good).0, some cs (and_parts _ _ good).1)
 
--- a ward has at most as many papers as 9999 batches of 500
+-- a ward has at most as many papers as 9999 batches of 500 papers
 pub papers_are_few : (s : OfficeState) (columns : List ℕ) (ward : ℕ) → list_all is_batch s.batches ≡ true → list_all (λ b. are_rounds_to s b b.round) s.batches ≡ true
     → IsStrictlySortedBy batch_cmp s.batches
     → length (ballots_in columns (piles_of s ward)).papers ≤ max_papers
@@ -279,7 +280,7 @@ seats_and_papers_are_few s w first fourth rise there =
 candidates_are : (s : OfficeState) → all_in_range s ≡ true → list_all is_candidate s.candidates ≡ true
 candidates_are s first = (and_parts _ _ (and_parts _ _ first).1).0
 
--- If numbers are in range, keyings are whole and entries are in key order, the contests are ones to which the rules
+-- If numbers are in range, keyings are complete and entries are in key order, every contest is one to which the rules
 -- apply.
 pub contest_is_fair : (s : OfficeState) (w : WardEntry) → all_in_range s ≡ true → all_keyed s ≡ true → MapsAreSorted s → ward_at s w.number ≡ Some w → is_contested w (candidates_of s w.number) ≡ true
     → IsContest (contest_of (election_of s w))

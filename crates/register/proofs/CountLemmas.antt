@@ -1,4 +1,4 @@
--- If there is no objection to a command for a count, it leads from a state to a state, and leaves a receipt in range.
+-- If there is no objection to a count command, applying it to a state yields a state, and its receipt is in range.
 use Rattle.std.proofs.Common.{◌≡◌, ℕ, zero, suc, ◌+◌, ◌≤◌, Bool, true, false, cond, not, ◌&&◌, ◌==◌, ◌++◌, nat_le, nat_lt, nat_eq, codes, List, length, filter, Option, Some, None, is_some}
 use Rattle.std.proofs.Common.{refl, sym, ap, subst, ◌∙◌, arith}
 use Rattle.std.specs.Fmt.{decimal}
@@ -71,7 +71,8 @@ lot_about m n h k = rw (are_plain-from last_ward first_lot_stage last_lot_stage 
 
 -- ---- the ward of a count
 
--- the stage of an action is due in a count: the count is held, the stages done exist, and the ward moves to the next stage
+-- the stage of the given action is due in a count: the election is contested, the completed stages exist, and the
+-- ward moves to the next stage
 pub record IsStageDue (s : OfficeState) (n : ℕ) (w : WardEntry) (action : Action) : Type 0 where
   pub contested : has_count (election_of s w) ≡ true
   pub stages : length (stages_of (election_of s w)) ≡ w.done
@@ -112,7 +113,7 @@ module _ (s : OfficeState) (n : ℕ) (w : WardEntry) (is : IsState s) (found : w
 
   -- ---- advancing
 
-  -- the stage due is one that a count can have
+  -- the number of the stage due doesn't exceed the limit for a count
   few_done : (action : Action) → w.phase ≡ Sealed → due_of (election_of s w) ≡ Act action → w.done ≤ 30
   few_done action phased due =
       let e = election_of s w in
@@ -155,7 +156,7 @@ module _ (s : OfficeState) (n : ℕ) (w : WardEntry) (is : IsState s) (found : w
       ∙ ap (option_map (λ (x : WardEntry). cond (is_eq (ward_compared n x)) (change x) x)) found
       ∙ ap (λ (b : Bool). Some (cond b (change w) w)) (found_key (ward_compared n) w s.wards found)
 
-  -- the ward and its count after the stage due
+  -- the ward and its count after the stage that was due
   advanced_more : (action : Action) (r : ReceiptEntry) → w.phase ≡ Sealed → due_of (election_of s w) ≡ Act action
       → HasStageMore s (with_receipt r (with_effect (stage_counted n (next_stage (ward_at s n))) s)) n
   advanced_more action r phased due =
@@ -212,7 +213,7 @@ module _ (s : OfficeState) (n : ℕ) (w : WardEntry) (is : IsState s) (found : w
 
 -- ---- what is due
 
--- an action is due
+-- what is due is an action
 pub record IsAct (due : Due) : Type 0 where
   pub action : Action
   pub is : due ≡ Act action
@@ -222,7 +223,7 @@ acts (Act action) open_ none = record { action = action; is = refl }
 acts (lot_due stage kind tied) open_ none = absurd (cc)
 acts Finished open_ none = absurd (cc)
 
--- a lot is due at a stage, and a candidate is among those tied
+-- a lot is due at the given stage, and the given candidate is one of those tied
 pub record IsLotAt (due : Due) (stage candidate : ℕ) : Type 0 where
   pub kind : TiedFor
   pub tied : List ℕ
@@ -269,7 +270,7 @@ drawn_stays s l w good found phased due is =
     there_too : (x : WardEntry) → (l.ward == x.number) ≡ false → is_sound (election_of s x) ≡ true → is_sound (election_of (with_effect (lot_drawn l) s) x) ≡ true
     there_too x other sound = ap is_sound (election_elsewhere s l.ward is x other (lot_drawn l) refl) ∙ sound
 
-    -- no lot for its ward and stage exists yet
+    -- there is no lot yet for its ward and stage
     new : entry_at (lot_cmp l) s.lots ≡ None
     new =
         sym (found_filter (lot_cmp l) (λ (x : LotEntry). x.ward == w.number) s.lots
@@ -280,7 +281,7 @@ drawn_stays s l w good found phased due is =
     maps lot_map = put_is_map lot_total l s.lots good new (maps_of is lot_map)
     maps m = maps_of is m
 
--- the stages done are unchanged
+-- the completed stages are unchanged
 drawn_same : (s : OfficeState) (l : LotEntry) (w : WardEntry) (r : ReceiptEntry) → ward_at s l.ward ≡ Some w → w.phase ≡ Sealed → IsLotAt (due_of (election_of s w)) l.stage l.candidate → IsState s
     → HasSameStages s (with_receipt r (with_effect (lot_drawn l) s)) l.ward
 drawn_same s l w r found phased due is =
@@ -308,7 +309,7 @@ drawn_tabulated s l w found phased due is = same_tabulation s (with_effect (lot_
 lot_stage_line : (stage : ℕ) → is_lot_stage stage ≡ true → IsLine 10 (decimal stage)
 lot_stage_line stage good = let high = upper first_lot_stage last_lot_stage stage good in line_decimal 10 stage (omega arith) (omega (arith, high)) (omega (arith, high))
 
--- an Advance without objections: its numbers, its ward, which is in count, and the action due
+-- an Advance without objections: its numbers, its ward, which is in count, and the action that is due
 record IsDue (s : OfficeState) (actor ward : ℕ) : Type 0 where
   office : is_office actor ≡ true
   number : is_ward_number ward ≡ true
@@ -331,7 +332,7 @@ is_due s actor ward none =
     let act = acts (due_of (election_of s found.ward)) open_ no_lot in
     record { office = range.0; number = range.1; own = found.ward; found = found.is; phased = found.phased; action = act.action; due = act.is }
 
--- the ward of an Advance without objections, and the action due in its count
+-- the ward of an Advance without objections, and the action that is due in the ward's count
 pub record HasStageDue (s : OfficeState) (ward : ℕ) : Type 0 where
   pub own : WardEntry
   pub found : ward_at s ward ≡ Some own
@@ -341,7 +342,7 @@ pub record HasStageDue (s : OfficeState) (ward : ℕ) : Type 0 where
 pub advance_due : (s : OfficeState) (actor ward : ℕ) → IsState s → first_reason (objections actor (Advance ward) (part_of s actor (Advance ward))) ≡ None → HasStageDue s ward
 advance_due s actor ward is none = let d = is_due s actor ward none in record { own = d.own; found = d.found; action = d.action; due = stage_due s ward d.own is d.found d.action d.phased d.due }
 
--- the Advance adds the stage due
+-- the Advance adds the stage that is due
 pub advance_adds : (s : OfficeState) (actor ward : ℕ) (r : ReceiptEntry) → IsState s → first_reason (objections actor (Advance ward) (part_of s actor (Advance ward))) ≡ None
     → HasStageMore s (with_receipt r (with_effect (effect_of (Advance ward) (part_of s actor (Advance ward))) s)) ward
 advance_adds s actor ward r is none = let d = is_due s actor ward none in advanced_more s ward d.own is d.found d.action r d.phased d.due
@@ -371,14 +372,14 @@ is_waited s actor ward stage candidate none =
     in
     record { office = range.0; good = range.1; own = found.ward; found = found.is; phased = found.phased; due = waits (due_of (election_of s found.ward)) stage candidate waited among }
 
--- the Lot leaves the stages done unchanged
+-- the Lot leaves the completed stages unchanged
 pub lot_keeps : (s : OfficeState) (actor ward stage candidate : ℕ) (r : ReceiptEntry) → IsState s
     → first_reason (objections actor (Lot ward stage candidate) (part_of s actor (Lot ward stage candidate))) ≡ None
     → HasSameStages s (with_receipt r (with_effect (effect_of (Lot ward stage candidate) (part_of s actor (Lot ward stage candidate))) s)) ward
 lot_keeps s actor ward stage candidate r is none =
     let d = is_waited s actor ward stage candidate none in drawn_same s (record { ward = ward; stage = stage; candidate = candidate }) d.own r d.found d.phased d.due is
 
--- a Declare without objections: its numbers, its ward, which is in count, and nothing more due
+-- a Declare without objections: its numbers, its ward, which is in count, and the fact that nothing more is due
 record IsOver (s : OfficeState) (actor ward : ℕ) : Type 0 where
   office : is_office actor ≡ true
   number : is_ward_number ward ≡ true
@@ -398,7 +399,7 @@ is_over s actor ward none =
     in
     record { office = range.0; number = range.1; own = found.ward; found = found.is; phased = found.phased; finished = finished }
 
--- the Declare leaves the stages done unchanged
+-- the Declare leaves the completed stages unchanged
 pub declare_keeps : (s : OfficeState) (actor ward : ℕ) (r : ReceiptEntry) → IsState s → first_reason (objections actor (Declare ward) (part_of s actor (Declare ward))) ≡ None
     → HasSameStages s (with_receipt r (with_effect (effect_of (Declare ward) (part_of s actor (Declare ward))) s)) ward
 declare_keeps s actor ward r is none = let d = is_over s actor ward none in declared_same s ward d.own is d.found r

@@ -1,4 +1,4 @@
--- Reading a count back from its tabulation, which works for the tabulation of any state.
+-- In any state, a count can be read back from its tabulation.
 use Rattle.std.proofs.Common.{◌≡◌, ℕ, suc, ◌+◌, ◌<◌, ◌≤◌, not, ◌==◌, true, List, [], ◌∷◌, ◌++◌, length, map, fold, replicate, drop, get_or, reverse, Some, refl, sym, subst, ap, ◌∙◌}
 use Rattle.std.proofs.Common.{append_assoc, arith, length-append, drop-cons, add-one}
 use Rattle.std.specs.List.{AllByRecursion}
@@ -34,7 +34,7 @@ use Rattle.register.specs.Tabulated.{PlacedEntry, FigureEntry, AreOfCount, bundl
 use Rattle.register.proofs.MapLemmas.{each_weaker}
 use Rattle.register.proofs.ContestLemmas.{columns_are_set, papers_are_rankings, papers_have_some, contest_is_fair}
 
--- the rest of a list is its next element, followed by the rest after that element
+-- the rest of a list consists of the next element and the rest after it
 pub left_at : {X : Type 0} (xs : List X) (i : ℕ) (x : X) → i < length xs → x ≡ get_or xs i x → drop i xs ≡ x ∷ drop (i + 1) xs
 left_at xs i x within is = drop-cons xs i x within ∙ ap (λ y. y ∷ drop (suc i) xs) (sym is) ∙ ap (λ n. x ∷ drop n xs) (sym (add-one i))
 
@@ -51,7 +51,7 @@ at_end (c ∷ bs) rest b up =
     below [] above = above.0
     below (d ∷ ds) above = below ds above.1
 
--- the next bundle of all bundles follows those before it
+-- the next bundle follows the earlier ones
 pub next_bundle : (all bs new rest : List Bundle) (b : Bundle) → AreBundles all → all ≡ bs ++ b ∷ rest → new ≡ with_papers bs b.0 b.1 → all ≡ new ++ rest
 next_bundle all bs new rest b are left more =
     let up : IsStrictlySortedBy list_cmp (keys_of (bs ++ b ∷ rest)) = subst (λ (cs : List Bundle). IsStrictlySortedBy list_cmp (keys_of cs)) left are.rise in
@@ -65,12 +65,12 @@ papers_behind : (bs rest : List Bundle) (b : Bundle) → length (papers_of bs) +
 papers_behind [] rest b = omega (arith, length-append (replicate b.1 b.0) (papers_of rest), length-replicate b.1 b.0)
 papers_behind (c ∷ bs) rest b = omega (arith, length-append (replicate c.1 c.0) (papers_of bs), length-append (replicate c.1 c.0) (papers_of (bs ++ b ∷ rest)), papers_behind bs rest b)
 
--- the next bundle is a bundle, and there is room for it
+-- the next bundle is valid, and there is room for it
 pub next_fits : (all bs rest : List Bundle) (b : Bundle) → AreBundles all → length (papers_of all) ≤ max_papers → all ≡ bs ++ b ∷ rest → IsBundle b × (length (papers_of bs) + b.1 ≤ max_papers)
 next_fits all bs rest b are few left =
     (each_behind bs rest b (subst (AllByRecursion IsBundle) left are.each), omega (arith, papers_behind bs rest b, few, ap (λ (cs : List Bundle). length (papers_of cs)) left))
 
--- ---- what is read back from the tabulation of an election
+-- ---- what is read back from an election's tabulation
 
 bundled_again : (e : ElectionEntry) (bs : List Bundle) → map bundle_of (map (placed_after e (stages_of e)) bs) ≡ bs
 bundled_again e [] = refl
@@ -138,7 +138,7 @@ module _ (e : ElectionEntry) (candidates : List ℕ) (seats : ℕ) (bundles : Li
 
 -- ---- in a state
 
--- the bundles of papers that each rank at least one candidate, without repetition, are valid bundles
+-- bundles are valid if each of their papers ranks at least one candidate, without repetition
 bundles_from : (bs : List Bundle) (papers : List (List ℕ)) → AreBundles bs → AllByRecursion (λ (paper : List ℕ). 1 ≤ length paper) papers → AreRankings papers
     → AreBundles (fold (λ cs paper. with_papers cs paper 1) bs papers)
 bundles_from bs [] are some ranked = are

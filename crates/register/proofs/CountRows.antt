@@ -1,5 +1,5 @@
--- The count of a ward, computed: its papers are judged, the ward is sealed, stages are counted, a lot is drawn, and the ward is
--- declared.
+-- An example of a ward's count, checked by computation: the ward's papers are judged, it is sealed, stages are counted, a lot is
+-- drawn, and the ward is declared.
 use Rattle.std.proofs.Common.{ℕ, true, false, ◌≡◌, List, [], ◌∷◌, ◌++◌, codes, refl}
 use Rattle.std.specs.Fmt.{digits}
 use Rattle.paper.specs.Preferences.{preferences_from}
@@ -27,14 +27,14 @@ use Rattle.register.specs.Machine.{accepted, refused, step, decided}
 abbrev ward : Phase → ℕ → ℕ → WardEntry
 ward phase seats done = record { number = 7; seats = seats; phase = phase; done = done; name = codes "Harbour" }
 
--- ---- three candidates for two seats, and a batch of two papers on which both clerks' keyings agree; the second paper is doubtful
+-- ---- three candidates for two seats, and a batch of two papers, keyed identically by both clerks; the second paper is doubtful
 
--- the papers as keyed by a clerk
+-- the papers as keyed by the given clerk
 abbrev keyed : ℕ → List KeyedEntry
 keyed clerk =
     record { batch = 12; round = 1; clerk = clerk; paper = 1; marks = codes "1,2," } ∷ record { batch = 12; round = 1; clerk = clerk; paper = 2; marks = codes "D" } ∷ []
 
--- the ward in a phase, with verdicts on the doubtful paper
+-- the ward in the given phase, with the given verdicts on the doubtful paper
 abbrev polled : Phase → List JudgedEntry → OfficeState
 polled phase judged =
     record {
@@ -83,7 +83,7 @@ not_ready : step (polled Keying []) 0 (codes "s1") (commands.Count (Seal 7)) ≡
 unfolding step decided is_id same_marks preferences_from counts.subject_of digits
 not_ready = refl
 
--- a sealed ward with a doubtful paper that has no verdict isn't part of a state
+-- if a doubtful paper has no verdict, a sealed ward isn't part of any state
 sealed_open : all_agreed (polled Sealed []) ≡ false
 unfolding all_agreed same_marks preferences_from
 sealed_open = refl
@@ -94,7 +94,7 @@ sealed_void = refl
 
 -- ---- two candidates for one seat, without papers
 
--- the ward with this number of stages done
+-- the ward with the given number of completed stages
 abbrev quiet : Phase → ℕ → List LotEntry → List ReceiptEntry → OfficeState
 quiet phase done lots receipts =
     record {
@@ -114,7 +114,7 @@ receipt subject reply = record { actor = 0; id = codes "c1"; subject = subject; 
 abbrev lot : ℕ → List LotEntry
 lot candidate = record { ward = 7; stage = 2; candidate = candidate } ∷ []
 
--- a command of the office
+-- an office command
 abbrev asked : CountCommand → Command
 asked command = commands.Count command
 
@@ -183,18 +183,18 @@ declared : step (quiet Sealed 2 (lot 1) []) 0 (codes "c1") (asked (Declare 7))
 unfolding step decided is_id counts.subject_of counts.reply_to stages_to listed digits
 declared = refl
 
--- ---- which of these are states
+-- ---- which of the offices are states
 
 counted : all_counted (quiet Sealed 2 (lot 1) []) ≡ true
 unfolding all_counted stages_to
 counted = refl
 
--- a stage that needed a lot that wasn't drawn
+-- a stage that needed a lot, although no lot was drawn
 counted_without_lot : all_counted (quiet Sealed 2 [] []) ≡ false
 unfolding all_counted stages_to
 counted_without_lot = refl
 
--- a stage after the last one
+-- a stage beyond the last one
 counted_beyond : all_counted (quiet Sealed 3 (lot 1) []) ≡ false
 unfolding all_counted stages_to
 counted_beyond = refl

@@ -46,12 +46,12 @@ of_receipt : (r : ReceiptEntry) (s : OfficeState) → tabulation_of (with_receip
 unfolding tabulation_of
 of_receipt r s = refl
 
--- the tabulation is unchanged if nothing is added
+-- if nothing is added, the tabulation is unchanged
 nothing_added : (s t : OfficeState) (addition : AdditionEntries) → addition ≡ no_addition → tabulation_of t ≡ tabulation_of s
     → SameTabulation (with_addition addition (tabulation_of s)) (tabulation_of t)
 nothing_added s t addition none same = rw (none, same) (record { bundles = IsPermutation-refl _; figures = IsPermutation-refl _ })
 
--- two rulings that accept are equal only if their changes are equal
+-- two accepting rulings are equal only if their changes are equal
 same_change : (c d : ChangeEntry) (r t : List ℕ) → accepts c r ≡ accepts d t → c ≡ d
 same_change c d r t same = cc
 
@@ -59,7 +59,8 @@ module _ (s : OfficeState) (actor : ℕ) (id : List ℕ) (command : Command) whe
   abbrev own_change : ChangeEntry
   own_change = record { effect = effect_of actor command (part_of s actor command); receipt = receipt_for actor id command (part_of s actor command) }
 
-  -- a request is accepted: its id has no receipt, there is no objection to its command, and this is the change
+  -- a request is accepted: there is no receipt with its id, there is no objection to its command, and this is
+  -- its change
   record IsAccepted (change : ChangeEntry) : Type 0 where
     new : receipt_at s actor id ≡ None
     free : first_reason (objections actor command (part_of s actor command)) ≡ None
@@ -86,7 +87,7 @@ module _ (s : OfficeState) (actor : ℕ) (id : List ℕ) (command : Command) whe
 -- ---- each command
 
 module _ (s : OfficeState) (actor : ℕ) (is : IsState s) (receipt : ReceiptEntry) (shown : Option CountValue) (addition : Addition) where
-  -- with the addition, the tabulation is that of the state after the effect and the receipt
+  -- applying the addition yields the tabulation of the state after the effect and the receipt
   abbrev IsTold : EffectEntry → Type 0
   IsTold effect = SameTabulation (with_addition (addition_entries addition) (tabulation_of s)) (tabulation_of (with_receipt receipt (with_effect effect s)))
 
@@ -97,7 +98,7 @@ module _ (s : OfficeState) (actor : ℕ) (is : IsState s) (receipt : ReceiptEntr
       let later = with_effect (effect_of actor command (part_of s actor command)) s in
       nothing_added s (with_receipt receipt later) (addition_entries addition) none (of_receipt receipt later ∙ same)
 
-  -- an Advance adds the stage of the action due
+  -- an Advance adds the stage of the action that is due
   stage_alone : (ward : ℕ) → IsCountFor s (Count (Advance ward)) shown → IsAddedFor (Count (Advance ward)) shown addition → (due : HasStageDue s ward)
       → addition_entries addition ≡ addition_at (election_of s due.own) due.action
   stage_alone ward count adds due =
@@ -114,7 +115,7 @@ module _ (s : OfficeState) (actor : ℕ) (is : IsState s) (receipt : ReceiptEntr
       (subst (SameTabulation (with_addition (addition_at (election_of s due.own) due.action) (tabulation_of s))) (sym (of_receipt receipt (with_effect (stage_counted ward (due.own.done + 1)) s)))
       (stage_tabulated s ward due.own is due.found due.action stage)))
 
-  -- what any command adds: an Advance its stage, any other command nothing
+  -- what each command adds: an Advance adds its stage; any other command adds nothing
   added : (command : Command) → first_reason (objections actor command (part_of s actor command)) ≡ None → IsCountFor s command shown → IsAddedFor command shown addition → IsAddedAt s command addition
   added (Count (Advance ward)) free count adds =
       let due = advance_due s actor ward is free in
@@ -132,14 +133,14 @@ module _ (s : OfficeState) (actor : ℕ) (is : IsState s) (receipt : ReceiptEntr
 -- ---- a decision
 
 module _ (s : OfficeState) (view : View) (command : Command) where
-  -- a change decided on a view of the state is the change of an accepted request
+  -- a change decided on a view of the state is the change made by an accepted request
   decided_there : (change : Change) (reply : String Global) → IsViewOf s command view → ruling_of (Accepted change reply) ≡ decided_on view command
       → IsAccepted s view.actor view.id.now command (change_entry change)
   decided_there change reply shows same =
       is_accepted s view.actor view.id.now command (change_entry change) (string_bytes reply)
       (sym (same ∙ ruling_on s view.actor view.id.now command (option_map receipt_entry view.receipt) (input_entries view.part) shows.receipt shows.part))
 
-  -- a decision on a view of a state adds what is counted to the tabulation
+  -- a decision on a view of a state adds to the tabulation what is counted
   pub adds_counted : (decision : Decision) → IsState s → IsViewOf s command view → ruling_of decision ≡ decided_on view command → DecidesAddition command view.part.count decision
       → AddsWhatIsCounted s decision
   adds_counted (Accepted change reply) is shows same adds =
@@ -149,7 +150,7 @@ module _ (s : OfficeState) (view : View) (command : Command) where
   adds_counted (Kept reply) is shows same adds = tt
   adds_counted (Refused why) is shows same adds = tt
 
-  -- a decision on a view of a state adds no more than what is counted
+  -- a decision on a view of a state adds nothing beyond what is counted
   pub adds_no_more : (decision : Decision) → IsState s → IsViewOf s command view → ruling_of decision ≡ decided_on view command → DecidesAddition command view.part.count decision
       → AddsNoMore s command decision
   adds_no_more (Accepted change reply) is shows same adds =

@@ -1,4 +1,4 @@
--- Elections and their counts: what keeps a count right as far as it is done.
+-- Elections and their counts: what keeps a count correct up to the last completed stage.
 use Rattle.std.proofs.Common.{◌≡◌, ℕ, suc, Bool, true, false, Some, cond, not, ◌&&◌, ◌||◌, ◌==◌, List, [], ◌∷◌, length, map, None, is_some, refl, ap, ◌∙◌, arith}
 use Rattle.std.specs.List.{list_all}
 use Rattle.std.proofs.lemmas.Bool.{and_parts, and_from, eqb-true}
@@ -13,7 +13,7 @@ use Rattle.register.proofs.MapLemmas.{list_all_weaker, list_all_both, filter_non
 
 -- ---- the sixth and seventh conditions, for one ward
 
--- an election is sound: its batches are settled if it is in count, and its count is right
+-- an election is sound: if it is in count, its batches are settled, and its count is correct so far
 abbrev pub is_sound : ElectionEntry → Bool
 is_sound e = is_agreed e && is_counted_right e
 
@@ -43,7 +43,7 @@ pub counted_from : (s : OfficeState) → are_lots_placed s ≡ true → are_soun
 unfolding all_counted
 counted_from s placed sound = and_from _ _ placed (list_all_weaker (λ w. is_sound (election_of s w)) (λ w. is_counted_right (election_of s w)) s.wards (λ w both. (and_parts _ _ both).1) sound)
 
--- if there is no ward with this number, there are no lots for it
+-- if there is no ward with the given number, there are no lots for it
 pub no_lots_of : (s : OfficeState) (n : ℕ) → are_lots_placed s ≡ true → ward_at s n ≡ None → lots_of s n ≡ []
 no_lots_of s n placed none =
     filter_none (λ (l : LotEntry). l.ward == n) s.lots (list_all_weaker (λ l. is_some (ward_at s l.ward)) (λ l. not (l.ward == n)) s.lots (λ l there. go l (l.ward == n) refl there) placed)
@@ -54,7 +54,7 @@ no_lots_of s n placed none =
         let lost : ward_at s l.ward ≡ None = ap (ward_at s) (eqb-true l.ward n same) ∙ none in
         absurd (let nowhere = rw lost at there in cc)
 
--- in a state every batch of a ward in count is settled
+-- in a state, every batch of a ward in count is settled
 pub settled_in_count : (s : OfficeState) (w : WardEntry) → IsState s → ward_at s w.number ≡ Some w → is_in_count (election_of s w) ≡ true → (election_of s w).ballots.settled ≡ true
 unfolding all_agreed
 settled_in_count s w is there counted = go (is_in_count (election_of s w)) counted (found_passes (ward_compared w.number) (λ x. is_agreed (election_of s x)) w s.wards is.agreed there)
@@ -63,19 +63,19 @@ settled_in_count s w is there counted = go (is_in_count (election_of s w)) count
     go true in_count settled = settled
     go false in_count settled = absurd (cc)
 
--- ---- an election, made from its parts
+-- ---- an election, assembled from its parts
 
 abbrev pub election_with : WardEntry → List CandidateEntry → List Pile → List LotEntry → ElectionEntry
 election_with w candidates piles lots = record { ward = w; candidates = candidates; ballots = ballots_in (columns_of candidates) piles; lots = map lot_pair lots }
 
--- the election of a ward changes only if its candidates, piles or lots do
+-- a ward's election changes only if its candidates, piles or lots change
 pub same_election : (w : WardEntry) (cs ds : List CandidateEntry) (ps qs : List Pile) (ks ls : List LotEntry) → cs ≡ ds → ps ≡ qs → ks ≡ ls → election_with w cs ps ks ≡ election_with w ds qs ls
 same_election w cs ds ps qs ks ls candidates piles lots =
     ap (λ (xs : List CandidateEntry). election_with w xs ps ks) candidates ∙ ap (λ (xs : List Pile). election_with w ds xs ks) piles ∙ ap (election_with w ds qs) lots
 
 -- ---- before a count
 
--- an election that isn't in count is sound if nothing of a count is done
+-- an election that isn't in count is sound if no stage is done and no lot is recorded
 pub sound_before : (e : ElectionEntry) → is_in_count e ≡ false → is_uncounted e ≡ true → is_sound e ≡ true
 sound_before e before none = rw before none
 
@@ -100,7 +100,7 @@ uncontested e none = go (is_counted e.ward.phase)
 
 -- ---- in a count
 
--- an election in count is sound if its batches are settled and its count is right as far as it is done
+-- an election in count is sound if its batches are settled and its count is correct so far
 pub sound_in : (e : ElectionEntry) → is_in_count e ≡ true → e.ballots.settled ≡ true → is_right_so_far e ≡ true → is_sound e ≡ true
 sound_in e counted settled right = and_from (is_agreed e) (is_counted_right e) (agreed (is_in_count e) settled) (counting (is_in_count e) counted)
   where
@@ -135,7 +135,7 @@ right_in e counted sound =
 
 -- ---- sealing a ward
 
--- without stages done or lots, the count is right as far as it is done
+-- without any completed stages or recorded lots, the count is correct so far
 pub right_at_start : (e : ElectionEntry) → is_uncounted e ≡ true → is_declared e.ward.phase ≡ false → is_right_so_far e ≡ true
 unfolding stages_to
 right_at_start e none open_ =

@@ -1,4 +1,4 @@
--- An effect changes only one batch or one ward: everything else stays the same.
+-- An effect changes only one batch or one ward; everything else stays the same.
 use Rattle.std.proofs.Common.{◌≡◌, ℕ, Bool, true, false, cond, not, ◌&&◌, ◌||◌, ◌==◌, List, [], ◌∷◌, length, map, filter, Option, Some, refl, sym, ap, ◌∙◌}
 use Rattle.std.specs.List.{list_all}
 use Rattle.std.specs.Ordering.{nat_cmp, is_eq}
@@ -23,7 +23,7 @@ use Rattle.register.proofs.ElectionLemmas.{is_sound, are_sound, sound_of, same_e
 
 -- ---- batches of other wards
 
--- a batch is a different one, or belongs to another ward
+-- a batch isn't the given one, or it belongs to another ward
 abbrev pub is_elsewhere : ℕ → ℕ → BatchEntry → Bool
 is_elsewhere n m x = not (n == x.number) || not (x.ward == m)
 
@@ -33,7 +33,8 @@ batches_elsewhere s n b m is found apart =
     all_but_number (λ (x : BatchEntry). x.number) s.batches n b (is_given_out s) (is_elsewhere n m) is.rise.batches found (λ same. or_right (not (n == b.number)) _ (ap not apart))
     (λ x other out. rw other refl) (and_parts _ _ is.given_out).0
 
--- the piles of a ward's batches are unchanged if the pile of every batch is, except for one batch of another ward
+-- if the pile of every batch but one is unchanged, and that one belongs to another ward, the piles of this ward's
+-- batches are unchanged
 pub piles_elsewhere : (s t : OfficeState) (n m : ℕ) (bs : List BatchEntry) → ((x : BatchEntry) → (n == x.number) ≡ false → pile_of t x ≡ pile_of s x) → list_all (is_elsewhere n m) bs ≡ true
     → map (pile_of t) (filter (λ (x : BatchEntry). x.ward == m) bs) ≡ map (pile_of s) (filter (λ (x : BatchEntry). x.ward == m) bs)
 piles_elsewhere s t n m [] same all = refl
@@ -51,7 +52,7 @@ piles_elsewhere s t n m (x ∷ bs) same all =
     go false away later = later
     go true away later = ap (λ (p : Pile). p ∷ map (pile_of t) (filter (λ (y : BatchEntry). y.ward == m) bs)) (same x (other (n == x.number) away)) ∙ ap (λ (ps : List Pile). pile_of s x ∷ ps) later
 
--- changing a batch of another ward leaves the batches of this ward unchanged
+-- changing a batch in another ward leaves the batches of this ward unchanged
 pub changed_elsewhere : (n m : ℕ) (change : BatchEntry → BatchEntry) → ((x : BatchEntry) → (change x).ward ≡ x.ward) → (bs : List BatchEntry) → list_all (is_elsewhere n m) bs ≡ true
     → filter (λ (x : BatchEntry). x.ward == m) (changed (batch_compared n) change bs) ≡ filter (λ (x : BatchEntry). x.ward == m) bs
 changed_elsewhere n m change ward [] all = refl
@@ -68,9 +69,9 @@ changed_elsewhere n m change ward (x ∷ bs) all =
         let moved : ((change x).ward == m) ≡ false = ap (λ (k : ℕ). k == m) (ward x) ∙ apart in
         rw (unsigned_tied n x.number ∙ same) (rw (moved, apart) later)
 
--- ---- what an effect concerns
+-- ---- the batch or ward that an effect concerns
 
--- an effect concerns a batch: it changes only the file or the entry of this batch
+-- an effect concerns the given batch: it changes only the batch's file or entry
 abbrev pub IsOfBatch : ℕ → EffectEntry → Type 0
 IsOfBatch n (batch_added b) = b.number ≡ n
 IsOfBatch n (batch_reopened batch round) = batch ≡ n
@@ -79,7 +80,7 @@ IsOfBatch n (papers_keyed papers) = list_all (λ k. k.batch == n) papers ≡ tru
 IsOfBatch n (paper_judged v) = v.batch ≡ n
 IsOfBatch n effect = ⊥
 
--- an effect concerns an existing batch of this ward
+-- an effect concerns an existing batch of the given ward
 pub record IsInWard (s : OfficeState) (ward : ℕ) (effect : EffectEntry) : Type 0 where
   pub batch : BatchEntry
   pub number : ℕ
@@ -87,7 +88,7 @@ pub record IsInWard (s : OfficeState) (ward : ℕ) (effect : EffectEntry) : Type
   pub of_batch : IsOfBatch number effect
   pub its_ward : batch.ward ≡ ward
 
--- an effect concerns a ward: it changes only this ward or one of its batches
+-- an effect concerns the given ward: it changes only this ward or one of its batches
 abbrev pub IsOfWard : OfficeState → ℕ → EffectEntry → Type 0
 IsOfWard s n (ward_added w) = w.number ≡ n
 IsOfWard s n (ward_moved ward phase) = ward ≡ n
@@ -129,7 +130,7 @@ file_elsewhere s (paper_judged v) n of b other =
 file_elsewhere s effect n of b other = absurd of
 
 module _ (s : OfficeState) (effect : EffectEntry) (n : ℕ) (b : BatchEntry) (is : IsState s) (found : batch_at s n ≡ Some b) (of : IsOfBatch n effect) where
-  -- if the effect keeps the rounds of its own batch right, the rounds of all batches stay right
+  -- if the effect keeps the rounds of its own batch valid, the rounds of all batches remain valid
   pub rounds_elsewhere : (are_rounds_to s b b.round ≡ true → are_rounds_to (with_effect effect s) b b.round ≡ true) → list_all (λ x. are_rounds_to (with_effect effect s) x x.round) s.batches ≡ true
   rounds_elsewhere own =
       let test : BatchEntry → Bool = λ x. are_rounds_to s x x.round in
@@ -138,7 +139,7 @@ module _ (s : OfficeState) (effect : EffectEntry) (n : ℕ) (b : BatchEntry) (is
       (λ same. own (found_passes (batch_compared n) test b s.batches was found))
       (λ x other. rounds_kept s (with_effect effect s) x (file_elsewhere s effect n of x other)) was
 
-  -- if the effect keeps the verdicts on its own batch right, the verdicts on all batches stay right
+  -- if the effect keeps the verdicts on its own batch valid, the verdicts on all batches remain valid
   pub judged_elsewhere : (is_judged s b (verdicts_of s b.number) ≡ true → is_judged (with_effect effect s) b (verdicts_of (with_effect effect s) b.number) ≡ true)
       → list_all (λ x. is_judged (with_effect effect s) x (verdicts_of (with_effect effect s) x.number)) s.batches ≡ true
   judged_elsewhere own =
@@ -163,11 +164,11 @@ election_kept s t x candidates piles lots =
     same_election x (candidates_of t x.number) (candidates_of s x.number) (piles_of t x.number) (piles_of s x.number) (lots_of t x.number) (lots_of s x.number) candidates piles lots
 
 module _ (s : OfficeState) (n : ℕ) (is : IsState s) (x : WardEntry) (other : (n == x.number) ≡ false) where
-  -- an entry that has the number of this ward doesn't have the number of the other
+  -- an entry with this ward's number doesn't have the other ward's number
   apart : (m : ℕ) → m ≡ n → (m == x.number) ≡ false
   apart m same = ap (λ (k : ℕ). k == x.number) same ∙ other
 
-  -- if the batches are unchanged, an effect concerning one of them leaves the piles of every other ward unchanged
+  -- if the batches are unchanged, an effect that concerns one of them leaves the piles of every other ward unchanged
   piles_kept : (effect : EffectEntry) → IsInWard s n effect → map (pile_of (with_effect effect s)) (batches_of s x.number) ≡ piles_of s x.number
   piles_kept effect own =
       piles_elsewhere s (with_effect effect s) own.number x.number s.batches (λ b away. pile_kept s (with_effect effect s) b (file_elsewhere s effect own.number own.of_batch b away))
@@ -193,7 +194,7 @@ module _ (s : OfficeState) (n : ℕ) (is : IsState s) (x : WardEntry) (other : (
 
 -- ---- before a count
 
--- An effect concerning a ward that hasn't been sealed, which leaves the wards and the lots unchanged.
+-- An effect that concerns a ward that hasn't been sealed, and leaves the wards and the lots unchanged.
 pub record IsBeforeCount (s : OfficeState) (effect : EffectEntry) : Type 0 where
   pub number : ℕ
   pub ward : WardEntry
@@ -203,7 +204,8 @@ pub record IsBeforeCount (s : OfficeState) (effect : EffectEntry) : Type 0 where
   pub wards : (with_effect effect s).wards ≡ s.wards
   pub lots : (with_effect effect s).lots ≡ s.lots
 
--- An effect concerning a batch whose ward is in keying is such an effect, if it leaves the wards and the lots unchanged.
+-- An effect that concerns a batch whose ward is in keying satisfies this definition if it leaves the wards and the lots
+-- unchanged.
 pub batch_in_keying : (s : OfficeState) (n : ℕ) (b : BatchEntry) (effect : EffectEntry) → batch_at s n ≡ Some b → IsThere Keying (ward_for s (batch_at s n)) → IsOfBatch n effect
     → (IsInWard s b.ward effect → IsOfWard s b.ward effect) → (with_effect effect s).wards ≡ s.wards → (with_effect effect s).lots ≡ s.lots → IsBeforeCount s effect
 batch_in_keying s n b effect found its of own wards lots = record {
@@ -216,7 +218,7 @@ batch_in_keying s n b effect found its of own wards lots = record {
   lots = lots;
 }
 
--- such an effect keeps every election of a state right
+-- such an effect keeps every election of a state sound
 pub sound_kept : (s : OfficeState) (effect : EffectEntry) → IsState s → IsBeforeCount s effect → are_sound (with_effect effect s) ≡ true
 sound_kept s effect is before =
     ap (list_all (λ x. is_sound (election_of (with_effect effect s) x))) before.wards

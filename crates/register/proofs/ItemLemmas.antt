@@ -1,4 +1,4 @@
--- What can be inserted into the maps of a state so that the result is a state.
+-- What can be inserted into the maps of a state such that the result is a state.
 use Rattle.std.proofs.Common.{◌≡◌, ℕ, Bool, true, false, not, ◌&&◌, ◌||◌, ◌==◌, List, Option, Some, None, is_some, refl}
 use Rattle.std.specs.Str.{is_utf8}
 use Rattle.std.specs.List.{list_all}
@@ -59,7 +59,7 @@ pub data MapName : Type 0 where
   lot_map : MapName
   receipt_map : MapName
 
--- the condition of a state on each of its maps
+-- the condition that a state must meet for each of its maps
 abbrev pub Holds : MapName → OfficeState → Type 0
 Holds ward_map s = IsMap is_ward ward_cmp s.wards
 Holds candidate_map s = IsMap is_candidate candidate_cmp s.candidates
@@ -92,7 +92,7 @@ maps_of {s} is m =
     go wards candidates batches thirds keyings verdicts lots receipts lot_map = record { in_range = lots; rises = is.rise.lots }
     go wards candidates batches thirds keyings verdicts lots receipts receipt_map = record { in_range = receipts; rises = is.rise.receipts }
 
--- the conditions of a state, other than those on each map alone
+-- the conditions of a state that involve several maps
 pub record AreJoined (s : OfficeState) : Type 0 where
   pub nominated : all_nominated s ≡ true
   pub given_out : all_given_out s ≡ true
@@ -126,14 +126,14 @@ state_from s maps joined = record {
       };
 }
 
--- the rounds of batches stay right in a state with the same batches, keyings and candidates
+-- the rounds of all batches remain valid in a state with the same batches, keyings and candidates
 pub rounds_still : (s t : OfficeState) (bs : List BatchEntry) → ((b : BatchEntry) (m : ℕ) → is_round_of s b m ≡ true → is_round_of t b m ≡ true) → list_all (λ b. are_rounds_to s b b.round) bs ≡ true
     → list_all (λ b. are_rounds_to t b b.round) bs ≡ true
 rounds_still s t bs each all = list_all_weaker _ _ bs (λ b rounds. rounds_from s t b b b.round (each b) rounds) all
 
 -- ---- wards and their candidates
 
--- whether the candidates of a state belong to existing wards
+-- whether all candidates of a state belong to existing wards
 abbrev pub are_placed : OfficeState → Bool
 are_placed s = list_all (λ c. is_some (ward_at s c.ward)) s.candidates
 
@@ -145,7 +145,7 @@ are_all test s = list_all (λ w. test w (candidates_of s w.number)) s.wards
 abbrev pub has_enough : WardEntry → List CandidateEntry → Bool
 has_enough w candidates = are_enough w.phase w candidates
 
--- adding a ward that has a new number, is in range, and is in nominations leads to a state
+-- adding a ward yields a state if its number is new, it is in range, and it is in nominations
 pub ward_stays : (s : OfficeState) (w : WardEntry) → is_ward w ≡ true → w.phase ≡ Nominations → w.done ≡ 0 → ward_at s w.number ≡ None → IsState s → IsState (with_effect (ward_added w) s)
 ward_stays s w good phase done new is =
     let placed = and_parts (are_placed s) (are_all has_enough s) is.nominated in
@@ -183,7 +183,7 @@ ward_stays s w good phase done new is =
       candidates = refl;
     }
 
--- adding a receipt that is in range, for an actor and id without a receipt, leads to a state
+-- adding a receipt yields a state if it is in range and there is no receipt for its actor and id yet
 pub receipt_stays : (s : OfficeState) (r : ReceiptEntry) → is_receipt r ≡ true → receipt_at s r.actor r.id ≡ None → IsState s → IsState (with_receipt r s)
 receipt_stays s r good new is =
     let parts = and_parts _ _ is.keyed in
@@ -203,8 +203,8 @@ receipt_stays s r good new is =
     maps receipt_map = put_is_map receipt_total r s.receipts good new (maps_of is receipt_map)
     maps m = maps_of is m
 
--- An effect that leads to a state, with the same tabulation unless it counts a stage, and with a subject and a reply that the actor's receipt may have:
--- the result of every command to which there is no objection.
+-- The result of every command to which there is no objection: an effect that yields a state, with the same tabulation unless it counts a stage, and
+-- with a subject and a reply that the actor's receipt may have.
 pub record IsFit (s : OfficeState) (actor : ℕ) (effect : EffectEntry) (subject reply : List ℕ) : Type 0 where
   pub state : IsState (with_effect effect s)
   pub tabulated : KeepsTabulation s effect
@@ -217,11 +217,11 @@ pub same_receipts : (effect : EffectEntry) (s : OfficeState) → (with_effect ef
 same_receipts (ward_added w) s = refl
 same_receipts effect s = refl
 
--- the subjects of the office's receipts
+-- a subject that an office receipt may have
 pub office_about : (actor : ℕ) (subject : List ℕ) → is_office actor ≡ true → is_office_subject subject ≡ true → is_about actor subject ≡ true
 office_about actor subject office about = rw (office, about) refl
 
--- the subjects of a clerk's receipts
+-- a subject that a clerk's receipt may have
 pub clerk_about : (actor : ℕ) (subject : List ℕ) → is_clerk actor ≡ true → is_clerk_subject subject ≡ true → is_about actor subject ≡ true
 clerk_about actor subject clerk about = rw (clerk, about) (go (is_office actor && is_office_subject subject))
   where

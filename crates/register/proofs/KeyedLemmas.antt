@@ -1,4 +1,4 @@
--- What batches, keyings and verdicts depend on; they still meet the conditions on a state if that is unchanged.
+-- The data on which batches, keyings and verdicts depend; as long as it is unchanged, they still meet the conditions for a state.
 use Rattle.std.proofs.Common.{◌≡◌, ℕ, ◌+◌, ◌≤◌, zero, suc, Bool, true, false, ◌&&◌, ◌||◌, nat_le, List, [], ◌∷◌, ◌++◌, arith, Option, Some, None, refl, sym, ap, ◌∙◌}
 use Rattle.std.specs.List.{list_all, range_with_len}
 use Rattle.std.proofs.lemmas.List.Folds.{list_all-append}
@@ -13,7 +13,7 @@ use Rattle.register.specs.StateConditions.{is_batch, all_given_out, all_keyed, a
 use Rattle.register.proofs.ThreeKeyingsLemmas.{not_keyed}
 use Rattle.register.proofs.MapLemmas.{list_all_weaker, list_all_both, found_passes}
 
--- if each round stays right, all rounds do
+-- if each round remains valid, all rounds do
 pub rounds_from : (s t : OfficeState) (b c : BatchEntry) (n : ℕ) → ((m : ℕ) → is_round_of s b m ≡ true → is_round_of t c m ≡ true) → are_rounds_to s b n ≡ true → are_rounds_to t c n ≡ true
 unfolding are_rounds_to
 rounds_from s t b c n each all = list_all_weaker (is_round_of s b) (is_round_of t c) (range_with_len 1 n) each all
@@ -28,7 +28,7 @@ last_first true false = refl
 last_first false true = refl
 last_first false false = refl
 
--- the rounds up to n + 1 are right exactly if the last one is and the rounds before it are
+-- the rounds up to n + 1 are valid if and only if the last one is and the rounds before it are
 pub rounds_more : (s : OfficeState) (b : BatchEntry) (n : ℕ) → are_rounds_to s b (suc n) ≡ (is_round_of s b (suc n) && are_rounds_to s b n)
 unfolding are_rounds_to
 rounds_more s b n =
@@ -38,7 +38,7 @@ rounds_more s b n =
     ∙ last_first (list_all (is_round_of s b) (range_with_len 1 n)) (is_round_of s b (1 + n))
     ∙ ap (λ (k : ℕ). is_round_of s b k && list_all (is_round_of s b) (range_with_len 1 n)) e
 
--- if the rounds up to n are right, round n is
+-- if the rounds up to n are valid, so is round n
 pub round_at : (s : OfficeState) (b : BatchEntry) (n : ℕ) → 1 ≤ n → are_rounds_to s b n ≡ true → is_round_of s b n ≡ true
 round_at s b zero low all = absurd (omega (arith, low))
 round_at s b (suc n) low all = (and_parts _ _ (sym (rounds_more s b n) ∙ all)).0
@@ -47,7 +47,7 @@ pub no_rounds : (s : OfficeState) (b : BatchEntry) → are_rounds_to s b 0 ≡ t
 unfolding are_rounds_to
 no_rounds s b = refl
 
--- the numbers of a batch, each in range
+-- the numbers of a batch, each of which is in range
 pub record BatchParts (b : BatchEntry) : Type 0 where
   pub number : is_batch_number b.number ≡ true
   pub ward : is_ward_number b.ward ≡ true
@@ -81,8 +81,8 @@ no_verdicts s b untaken (v ∷ vs) judged = absurd (lost (taken_papers s b) (not
 
 -- ---- a batch's file
 
--- Everything that a state has about a batch, apart from its entry, is the same in another state: the candidates of its ward, its keyings, and the
--- verdicts on its papers.
+-- Everything that a state has about a batch, apart from the batch's entry, is the same in another state: the candidates of its ward, its keyings,
+-- and the verdicts on its papers.
 pub record HasSameFile (s t : OfficeState) (b : BatchEntry) : Type 0 where
   pub candidates : candidates_of t b.ward ≡ candidates_of s b.ward
   pub keyings : (round : ℕ) → keyings_in t b round ≡ keyings_in s b round
@@ -96,12 +96,12 @@ module _ (s t : OfficeState) (b : BatchEntry) (same : HasSameFile s t b) where
       pile_with : List (List KeyedEntry) → List JudgedEntry → Pile
       pile_with keyings verdicts = record { keyings = keyings; verdicts = verdicts }
 
-  -- its rounds still meet the conditions on a state
+  -- its rounds still meet the conditions for a state
   pub rounds_kept : are_rounds_to s b b.round ≡ true → are_rounds_to t b b.round ≡ true
   rounds_kept rounds =
       rounds_from s t b b b.round (λ m holds. ap (λ (ks : List (List KeyedEntry)). list_all (is_whole b.size) ks && (nat_le b.round m || differ ks)) (same.keyings m) ∙ holds) rounds
 
-  -- its verdicts still meet the conditions on a state
+  -- its verdicts still meet the conditions for a state
   pub judged_kept : is_judged s b (verdicts_of s b.number) ≡ true → is_judged t b (verdicts_of t b.number) ≡ true
   judged_kept judged =
       ap (λ (cs : List CandidateEntry). judged_by cs (keyings_now t b) (verdicts_of t b.number)) same.candidates
@@ -114,7 +114,7 @@ module _ (s t : OfficeState) (b : BatchEntry) (same : HasSameFile s t b) where
 
 -- ---- other wards and candidates
 
--- the state with other wards and candidates
+-- the state with its wards and candidates replaced
 abbrev pub with_nominations : List WardEntry → List CandidateEntry → OfficeState → OfficeState
 with_nominations wards candidates s = record s { wards = wards; candidates = candidates }
 

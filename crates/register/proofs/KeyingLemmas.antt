@@ -1,4 +1,5 @@
--- If there is no objection to a clerk's command, it leads from a state to a state, and leaves a receipt in range.
+-- If there is no objection to a clerk's command, applying it to a state yields a state, and its receipt is in
+-- range.
 use Rattle.std.proofs.Common.{rules, inl, inr, ◌≡◌, ◌⊎◌, ℕ, suc, ◌+◌, ◌<◌, ◌≤◌, Bool, true, false, not, ◌&&◌, ◌||◌, ◌==◌, ◌++◌, nat_le, codes, List, [], ◌∷◌, length, map, filter, Option}
 use Rattle.std.proofs.Common.{Some, None, Result, Ok, Err, string_bytes, refl, sym, ap, subst, ◌∙◌, arith}
 use Rattle.std.specs.Fmt.{decimal}
@@ -52,7 +53,7 @@ use Rattle.register.proofs.BatchLemmas.{found_in_range}
 abbrev is_of : ℕ → ℕ → ℕ → KeyedEntry → Bool
 is_of batch round clerk k = (k.batch == batch) && ((k.round == round) && (k.clerk == clerk))
 
--- papers of a keying, with numbers below this one
+-- papers of a keying, all with numbers below the given one
 abbrev AreBelow : ℕ → ℕ → ℕ → ℕ → List KeyedEntry → Type 0
 AreBelow batch round clerk paper ks = AllByRecursion (λ k. (is_of batch round clerk k ≡ true) × (k.paper < paper)) ks
 
@@ -69,7 +70,7 @@ module _ (batch round clerk : ℕ) where
   numbered paper [] = refl
   numbered paper (marks ∷ others) = and_from _ _ (eq-eqb paper paper refl) (numbered (paper + 1) others)
 
-  -- its papers all belong to it
+  -- its papers all belong to the keying
   each_of : (test : ℕ → ℕ → ℕ → Bool) → test batch round clerk ≡ true → (paper : ℕ) (texts : List (List ℕ))
       → list_all (λ k. test k.batch k.round k.clerk) (papers_from batch round clerk paper texts) ≡ true
   unfolding papers_from
@@ -87,7 +88,7 @@ module _ (batch round clerk : ℕ) where
       let number : is_paper_number paper ≡ true = and_from _ _ (le-leb 1 paper low) (le-leb paper most_papers (omega (arith, high))) in
       and_from _ _ (and_from _ _ a (and_from _ _ b (and_from _ _ c (and_from _ _ number text.0)))) (papers_in_range a b c (paper + 1) others (omega (arith, low)) (omega (arith, high)) text.1)
 
-  -- the marks on its papers can be read, if no bad marks are found
+  -- the marks on its papers can be read if no bad marks are found
   papers_read : (columns : List ℕ) (paper : ℕ) (texts : List (List ℕ)) → first_bad_marks columns paper texts ≡ None
       → list_all (λ k. is_readable columns k.marks) (papers_from batch round clerk paper texts) ≡ true
   unfolding papers_from first_bad_marks
@@ -131,7 +132,7 @@ module _ (batch round clerk : ℕ) where
       let equal = λ (m n : ℕ) (same : is_eq (nat_cmp m n) ≡ true). eq-eqb n m (sym (same_number m n same)) in
       and_from _ _ (equal batch k.batch first.0) (and_from _ _ (equal round k.round second.0) (equal clerk k.clerk third.0))
 
-  -- a map in which exactly these papers belong to the keying
+  -- a map in which exactly the given papers belong to the keying
   pub record IsPut (ys zs : List KeyedEntry) : Type 0 where
     pub map : IsMap is_keyed_paper keyed_cmp ys
     pub keying : filter (is_of batch round clerk) ys ≡ zs
@@ -169,7 +170,8 @@ module _ (batch round clerk : ℕ) where
       let next = put_papers (paper + 1) others (put keyed_cmp x ys) (zs ++ (x ∷ [])) ranges.1 (more_below paper marks zs below) (put_paper paper marks ys zs ranges.0 below is) in
       record { map = next.map; keying = next.keying ∙ append_assoc zs (x ∷ []) (papers_from batch round clerk (paper + 1) others) }
 
-  -- papers that pass a test are inserted among the passing entries in the same order as among all entries
+  -- if the papers pass a test, inserting them before filtering by that test is the same as inserting them after
+  -- it
   put_among : (test : KeyedEntry → Bool) (paper : ℕ) (texts : List (List ℕ)) (ys zs : List KeyedEntry) → list_all test (papers_from batch round clerk paper texts) ≡ true
       → list_all is_keyed_paper (papers_from batch round clerk paper texts) ≡ true
       → AreBelow batch round clerk paper zs → IsPut ys zs → filter test (put_each keyed_cmp (papers_from batch round clerk paper texts) ys)
@@ -186,7 +188,7 @@ module _ (batch round clerk : ℕ) where
 
 -- ---- recording a keying
 
--- the papers of a keying, in a batch's current round
+-- the papers of a keying in a batch's current round
 abbrev papers_for : BatchEntry → ℕ → List (List ℕ) → List KeyedEntry
 papers_for b actor texts = papers_from b.number b.round actor 1 texts
 
@@ -218,12 +220,14 @@ module _ (s : OfficeState) (b : BatchEntry) (actor : ℕ) (texts : List (List �
     put_there : IsPut b.number b.round actor (put_each keyed_cmp (papers_for b actor texts) s.keyings) (papers_for b actor texts)
     put_there = put_papers b.number b.round actor 1 texts s.keyings [] papers_good tt (record { map = maps_of is keyed_map; keying = unkeyed })
 
-    -- the clerk's papers are inserted among their own
+    -- inserting the clerk's papers before filtering by a test that they pass is the same as inserting them after
+    -- it
     pub put_among_own : (test : KeyedEntry → Bool) → list_all test (papers_for b actor texts) ≡ true
         → filter test (put_each keyed_cmp (papers_for b actor texts) s.keyings) ≡ put_each keyed_cmp (papers_for b actor texts) (filter test s.keyings)
     put_among_own test passes = put_among b.number b.round actor test 1 texts s.keyings [] passes papers_good tt (record { map = maps_of is keyed_map; keying = unkeyed })
 
-    -- in this round, a clerk's keying is unchanged or, if there was none, is this one, which is whole
+    -- in this round, a clerk's keying is either unchanged or, if there was none before, the new one, which is
+    -- whole
     now_or_own : (c : ℕ) (same : Bool) → (actor == c) ≡ same → Grows (keying_of s b.number b.round c) (keying_of (with_papers s b actor texts) b.number b.round c)
     now_or_own c false other = inl (other_keying b.number b.round c (and_right (b.number == b.number) _ (and_right (b.round == b.round) (actor == c) other)))
     now_or_own c true same = inr (ap (keying_of s b.number b.round) (sym (eqb-true actor c same)) ∙ unkeyed)
@@ -263,7 +267,7 @@ module _ (s : OfficeState) (b : BatchEntry) (actor : ℕ) (texts : List (List �
             in
             ap (λ (ks : List (List KeyedEntry)). list_all (is_whole b.size) ks && (nat_le b.round m || differ ks)) same ∙ holds
 
-    -- a doubtful paper among the batch's agreed papers remains one
+    -- a doubtful paper among the batch's agreed papers remains among them
     doubtful_kept : list_all (is_whole b.size) (keyings_now s b) ≡ true → (paper : ℕ) → has_doubtful (taken_papers s b) paper ≡ true
         → has_doubtful (taken_papers (with_papers s b actor texts) b) paper ≡ true
     doubtful_kept whole paper was =
@@ -292,8 +296,8 @@ module _ (s : OfficeState) (b : BatchEntry) (actor : ℕ) (texts : List (List �
         grows_one None = inl refl
         grows_one (Some c) = grows c
 
-    -- the papers are keyed from an existing batch, in its round, by one of its clerks, with marks that can be
-    -- read
+    -- the papers are keyed for an existing batch, in its current round, by one of its clerks, with marks that can
+    -- be read
     keyed_for_each : (paper : ℕ) (others : List (List ℕ)) → list_all (λ k. is_readable (columns_for s b) k.marks) (papers_from b.number b.round actor paper others) ≡ true
         → list_all (λ k. is_keyed_for s k (batch_at s k.batch)) (papers_from b.number b.round actor paper others) ≡ true
     unfolding papers_from
@@ -302,8 +306,8 @@ module _ (s : OfficeState) (b : BatchEntry) (actor : ℕ) (texts : List (List �
         let parts = and_parts (is_readable (columns_for s b) marks) (list_all (λ k. is_readable (columns_for s b) k.marks) (papers_from b.number b.round actor (paper + 1) others)) read in
         and_from _ _ (rw found (and_from _ _ (le-leb b.round b.round (le_refl b.round)) (and_from _ _ its parts.0))) (keyed_for_each (paper + 1) others parts.1)
 
-    -- recording a whole keying of the batch's round, by one of its clerks who had none in that round, leads
-    -- to a state
+    -- recording a whole keying yields a state if it is in the batch's current round, by one of the batch's
+    -- clerks, who had no keying in that round
     pub keyed_stays : IsBeforeCount s (papers_keyed (papers_for b actor texts)) → first_bad_marks (columns_for s b) 1 texts ≡ None → IsState (with_papers s b actor texts)
     keyed_stays before none =
         let keyed = and_parts _ _ is.keyed in
@@ -335,7 +339,7 @@ module _ (s : OfficeState) (b : BatchEntry) (actor : ℕ) (texts : List (List �
             let parts = found_in_range is b.number b found in
             (and_parts _ _ (round_at s b b.round (lower 1 last_round b.round parts.round) rounds)).0
 
-        -- a verdict is still on one of these papers
+        -- a verdict is still on one of the batch's agreed papers
         is_decided : JudgedEntry → Bool
         is_decided v = ((v.code == 0) && is_valid (columns_for s b) v.marks) || (is_rejection_code v.code && (length v.marks == 0))
 
@@ -362,12 +366,12 @@ all_written : (texts : List (String Global)) → list_all is_utf8 (map string_by
 all_written [] = refl
 all_written (text ∷ texts) = and_from _ _ (is_utf8-from_IsUtf8 (string_bytes text) (IsUtf8-string_bytes text)) (all_written texts)
 
--- the subjects of receipts for a keying
+-- the subjects of receipts for keyings
 key_about : (m n : ℕ) → is_batch_number m ≡ true → is_round n ≡ true → is_clerk_subject (codes "key " ++ (decimal m ++ (codes " " ++ decimal n))) ≡ true
 unfolding is_clerk_subject
 key_about m n h k = rw (are_plain-decimals last_batch last_round m n (omega arith) (omega arith) h k) refl
 
--- the batch that is found passes a test
+-- the batch that was found passes the test
 found_is : (s : OfficeState) (n : ℕ) (b : BatchEntry) → batch_at s n ≡ Some b → (test : BatchEntry → Bool) → passes test (batch_at s n) ≡ true → test b ≡ true
 found_is s n b found test passing = ap (passes test) (sym found) ∙ passing
 
@@ -431,7 +435,7 @@ among_same : (s : OfficeState) (b : BatchEntry) (actor : ℕ) (texts : List (Lis
     ≡ put_each keyed_cmp (papers_from n round actor 1 texts) (filter test s.keyings)
 among_same s b actor texts test n round number same own = rw (number, same) own
 
--- if its papers pass a test, they are among the passing entries in the same order as among all entries
+-- if its papers pass a test, inserting them before filtering by that test is the same as inserting them after it
 pub keyed_among : (s : OfficeState) (actor : ℕ) (command : KeyingCommand) (test : KeyedEntry → Bool) → IsState s → first_reason (objections actor command (part_of s actor command)) ≡ None
     → list_all test (papers_from command.batch command.round actor 1 (texts_of command)) ≡ true
     → filter test (put_each keyed_cmp (papers_from command.batch command.round actor 1 (texts_of command)) s.keyings)

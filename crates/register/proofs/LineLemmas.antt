@@ -32,7 +32,7 @@ small low high n below h = omega (arith, upper low high n h, below)
 pub not_equal : (a b : ℕ) → b < a → (a == b) ≡ false
 not_equal a b above = elim (eqb_tells a b) [ inl same ↦ absurd (omega (arith, same.1, above)) | inr other ↦ other.0 ]
 
--- the decimal text of a number in a range of positive numbers is plain
+-- if the range contains only positive numbers, the decimal text of a number in it is plain
 pub is_plain-from : (low high n : ℕ) → 1 ≤ low → high < 2 ^ 64 → is_between low high n ≡ true → is_plain_number low high (decimal n) ≡ true
 unfolding is_plain_number
 is_plain-from low high n some below h =
@@ -46,7 +46,7 @@ is_plain-from low high n some below h =
 pub is_plain-decimal : (high n : ℕ) → high < 2 ^ 64 → is_between 1 high n ≡ true → is_plain_number 1 high (decimal n) ≡ true
 is_plain-decimal high n below h = is_plain-from 1 high n (omega arith) below h
 
--- the first space is the one after the digits
+-- the first space is the one that follows the digits
 first_space : (ds t : List ℕ) → all_ascii_digits ds ≡ true → position_or_len is_space (ds ++ (32 ∷ t)) ≡ length ds
 first_space [] t h = refl
 first_space (d ∷ ds) t h =
@@ -54,7 +54,7 @@ first_space (d ∷ ds) t h =
     let later = first_space ds t (and_parts (is_between 48 57 d) (all_ascii_digits ds) h).1 in
     rw (not_equal d 32 (omega (arith, low))) (omega (arith, later))
 
--- the text of two numbers in such ranges, separated by a space, is that of two plain numbers
+-- the text of two such numbers, separated by a space, is that of two plain numbers
 pub are_plain-from : (high least most m n : ℕ) → 1 ≤ least → high < 2 ^ 64 → most < 2 ^ 64 → is_between 1 high m ≡ true → is_between least most n ≡ true
     → are_plain_numbers 1 high least most (decimal m ++ (32 ∷ decimal n)) ≡ true
 are_plain-from high least most m n some below low first second =
@@ -95,7 +95,7 @@ given t good = words t (low t good) (list_all_parts t good)
         let parts = and_parts (nat_lt b 128 && is_line_byte b) (list_all (λ c. nat_lt c 128 && is_line_byte c) bs) each in
         and_from _ _ (and_parts (nat_lt b 128) (is_line_byte b) parts.0).1 (list_all_parts bs parts.1)
 
--- a line followed by a line is a line
+-- a line followed by another line is a line
 pub line_append : {j k : ℕ} {s t : List ℕ} → IsLine j s → IsLine k t → IsLine (j + k) (s ++ t)
 line_append {j} {k} {s} {t} first second = record {
   ascii = IsAscii-append s t first.ascii second.ascii;

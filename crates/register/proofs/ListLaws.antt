@@ -1,4 +1,4 @@
--- Laws of the machine, for lists of requests.
+-- Laws of the machine that concern lists of requests.
 use Rattle.std.proofs.Common.{◌≡◌, ℕ, ◌+◌, ◌<◌, Bool, true, false, cond, List, [], ◌∷◌, length, take, get_or, refl, ap, subst, ◌∙◌}
 use Rattle.std.proofs.lemmas.List.{take_more}
 use Rattle.std.proofs.lemmas.List.Sums.{fold_push}
@@ -17,7 +17,7 @@ only_accepted s (accepted next reply) h = absurd (true≢false h)
 only_accepted s (kept reply) h = refl
 only_accepted s (refused why) h = refl
 
--- so the accepted requests alone lead to the same state
+-- so processing only the accepted requests leads to the same state
 pub after-accepted_of : (s : OfficeState) (rs : List Request) → after s (accepted_of s rs) ≡ after s rs
 after-accepted_of s [] = refl
 after-accepted_of s (r ∷ rs) = go (is_accepted (step_of s r)) refl (after-accepted_of (after_one s r) rs)
@@ -27,7 +27,7 @@ after-accepted_of s (r ∷ rs) = go (is_accepted (step_of s r)) refl (after-acce
     go true is later = later
     go false is later = subst (λ (x : OfficeState). after x (accepted_of (after_one s r) rs) ≡ after (after_one s r) rs) (only_accepted s (step_of s r) is) later
 
--- the state after one more request
+-- the state after processing the next request
 pub after-more : (s : OfficeState) (rs : List Request) (i : ℕ) (d : Request) → i < length rs → after s (take (i + 1) rs) ≡ after_one (after s (take i rs)) (get_or rs i d)
 after-more s rs i d within = ap (after s) (take_more rs i d within) ∙ fold_push after_one s (take i rs) (get_or rs i d)
 

@@ -1,4 +1,5 @@
--- Every step leads from a state to a state, and an accepted request is kept when it is repeated.
+-- Every step from a state leads to a state, and a repeated request gets the reply to the original one if that
+-- was accepted.
 use Rattle.std.proofs.Common.{◌≡◌, ℕ, Bool, true, false, cond, List, [], ◌∷◌, Option, Some, None, string_bytes, refl, ap, ◌∙◌}
 use Rattle.std.specs.Ordering.{nat_cmp, ordering_then}
 use Rattle.std.specs.Cmp.Lexicographic.{slice_cmp}
@@ -42,20 +43,21 @@ fits s actor (Count command) is none = count_fits s actor command is none
 
 -- ---- a request in a state
 
--- if there is a receipt, the decision doesn't depend on the part of the state
+-- if there is a receipt, the decision doesn't depend on any other part of the state
 alike : (actor : ℕ) (id : List ℕ) (command : Command) (receipt : Option ReceiptEntry) (part other : CommandInputEntries) → (receipt ≡ None → part ≡ other)
     → decided actor id command receipt part ≡ decided actor id command receipt other
 unfolding decided
 alike actor id command None part other same = ap (decided actor id command None) (same refl)
 alike actor id command (Some receipt) part other same = refl
 
--- a decision made on the receipt of a state and, if there is none, on its part, is the decision in that state
+-- a decision based on the receipt in a state and, if there is none, on the part that the command needs, is the
+-- decision in that state
 pub ruling_on : (s : OfficeState) (actor : ℕ) (id : List ℕ) (command : Command) (receipt : Option ReceiptEntry) (part : CommandInputEntries) → receipt ≡ receipt_at s actor id
     → (receipt_at s actor id ≡ None → part ≡ part_of s actor command)
     → decided actor id command receipt part ≡ ruling_at s actor id command
 ruling_on s actor id command receipt part same_receipt same_part = rw same_receipt (alike actor id command (receipt_at s actor id) part (part_of s actor command) same_part)
 
--- the outcome of such a decision is the step in that state
+-- the outcome of such a decision is the outcome of the step in that state
 pub step_on : (s : OfficeState) (actor : ℕ) (id : List ℕ) (command : Command) (receipt : Option ReceiptEntry) (part : CommandInputEntries) → receipt ≡ receipt_at s actor id
     → (receipt_at s actor id ≡ None → part ≡ part_of s actor command)
     → outcome_at s (decided actor id command receipt part) ≡ step s actor id command
@@ -93,7 +95,7 @@ lasts s actor id receipt [] found = found
 lasts s actor id receipt (r ∷ rs) found = lasts (after_one s r) actor id receipt rs (step_lasts s actor id receipt found r.actor (string_bytes r.id) r.command)
 
 module _ (s : OfficeState) (actor : ℕ) (id : List ℕ) (command : Command) where
-  -- an actor and an id without a receipt still have none after the effect
+  -- if there is no receipt for an actor and id, there is still none after the effect
   still_new : receipt_at s actor id ≡ None → receipt_at (with_effect (effect_of actor command (part_of s actor command)) s) actor id ≡ None
   still_new new = same_found (effect_of actor command (part_of s actor command)) s actor id ∙ new
 
@@ -106,7 +108,7 @@ module _ (s : OfficeState) (actor : ℕ) (id : List ℕ) (command : Command) whe
       receipt_stays (with_effect (effect_of actor command (part_of s actor command)) s) (receipt_for actor id command (part_of s actor command))
       (and_from _ _ fit.about (and_from _ _ fit.text (and_from _ _ good fit.line))) (still_new new) fit.state
 
-  -- every step leads from a state to a state
+  -- every step from a state leads to a state
   pub step_stays : IsState s → IsState (state_after s (step s actor id command))
   unfolding step decided
   step_stays is = go (is_id id) refl (receipt_at s actor id) refl
@@ -164,7 +166,8 @@ module _ (s : OfficeState) (actor : ℕ) (id : List ℕ) where
   abbrev own_receipt : Command → ReceiptEntry
   own_receipt command = receipt_for actor id command (part_of s actor command)
 
-  -- an accepted Advance adds the stage due; an accepted Lot or Declare leaves the stages done unchanged
+  -- an accepted Advance adds the stage that is due; an accepted Lot or Declare leaves the completed stages
+  -- unchanged
   pub advances : (command : Command) → IsState s → IsAdvanced s command (step s actor id command)
   advances (Count (Advance ward)) is = advances_where (Count (Advance ward)) (λ reply. tt) (λ why. tt) (λ none. advance_adds s actor ward (own_receipt (Count (Advance ward))) is none)
   advances (Count (Lot ward stage candidate)) is =
@@ -174,7 +177,7 @@ module _ (s : OfficeState) (actor : ℕ) (id : List ℕ) where
 
 -- ---- replies to a clerk
 
--- the reply to an accepted keying depends on the command alone
+-- the reply to an accepted keying depends only on the command
 pub told_alike : (actor : ℕ) (id : List ℕ) (command : Command) (receipt : Option ReceiptEntry) (part : CommandInputEntries) → IsToldAlike command (decided actor id command receipt part)
 unfolding decided
 told_alike actor id (Keying command) receipt part = go (is_id id) receipt

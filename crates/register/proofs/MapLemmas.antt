@@ -1,4 +1,4 @@
--- Maps: inserting an entry, for entries of any type and any order of keys.
+-- Maps: inserting an entry, for any type of entries and any key order.
 use Rattle.std.proofs.Common.{◌≡◌, ℕ, ◌==◌, Bool, true, false, not, List, [], ◌∷◌, ◌++◌, map, filter, Option, Some, None, is_some, option_map, cond, refl, sym, ap, ◌∙◌}
 use Rattle.std.specs.List.{AllByRecursion, list_all}
 use Rattle.std.specs.List.Sorted.{IsPermutation, IsStrictlySortedBy}
@@ -12,7 +12,7 @@ use Rattle.std.proofs.lemmas.List.Folds.{list_all-map}
 use Rattle.std.proofs.lemmas.List.Sorted.{IsPermutation-refl, IsPermutation-sym, IsPermutation-trans, IsPermutation-cons, IsPermutation-middle}
 use Rattle.register.specs.Offices.{put, put_each, entry_at, without, changed}
 
--- a map with an inserted entry has exactly this additional entry
+-- inserting an entry into a map adds exactly that entry
 pub put_same : {X : Type 0} (cmp : X → X → Ordering) (x : X) (ys : List X) → IsPermutation (x ∷ ys) (put cmp x ys)
 put_same cmp x [] = IsPermutation-refl _
 put_same {X} cmp x (y ∷ ys) = elim (is_lt (cmp x y)) as (λ b. IsPermutation (x ∷ y ∷ ys) (cond b (x ∷ y ∷ ys) (y ∷ put cmp x ys))) [
@@ -20,7 +20,7 @@ put_same {X} cmp x (y ∷ ys) = elim (is_lt (cmp x y)) as (λ b. IsPermutation (
   | false ↦ IsPermutation-trans _ _ _ (IsPermutation-sym _ _ (IsPermutation-middle (y ∷ []) x ys)) (IsPermutation-cons y _ _ (put_same cmp x ys))
 ]
 
--- if every entry passes a test, and the inserted one does too, every entry still does
+-- if every entry passes a test, and the inserted entry does too, every entry still passes
 pub put_all : {X : Type 0} (cmp : X → X → Ordering) (p : X → Bool) (x : X) (ys : List X) → p x ≡ true → list_all p ys ≡ true → list_all p (put cmp x ys) ≡ true
 put_all cmp p x [] good all = and_from _ _ good refl
 put_all cmp p x (y ∷ ys) good all = elim (is_lt (cmp x y)) as (λ b. list_all p (cond b (x ∷ y ∷ ys) (y ∷ put cmp x ys)) ≡ true) [
@@ -40,7 +40,7 @@ pub list_all_weaker : {X : Type 0} (p q : X → Bool) (xs : List X) → ((x : X)
 list_all_weaker p q [] weaker all = refl
 list_all_weaker p q (x ∷ xs) weaker all = and_from _ _ (weaker x (and_parts _ _ all).0) (list_all_weaker p q xs weaker (and_parts _ _ all).1)
 
--- if every entry passes two tests, every entry passes a test that follows from both
+-- if every entry passes two tests, every entry passes any test that follows from both
 pub list_all_both : {X : Type 0} (p q r : X → Bool) (xs : List X) → ((x : X) → p x ≡ true → q x ≡ true → r x ≡ true) → list_all p xs ≡ true → list_all q xs ≡ true → list_all r xs ≡ true
 list_all_both p q r [] both first second = refl
 list_all_both p q r (x ∷ xs) both first second =
@@ -50,7 +50,7 @@ pub each_weaker : {X : Type 0} (P Q : X → Type 0) (ys : List X) → ((y : X) �
 each_weaker P Q [] f all = tt
 each_weaker P Q (y ∷ ys) f all = (f y all.0, each_weaker P Q ys f all.1)
 
--- if an entry with a new key is inserted, the keys are still ascending
+-- if an entry with a new key is inserted, the keys remain in ascending order
 pub put_rises : {X : Type 0} {cmp : X → X → Ordering} → IsTotalOrder cmp → (x : X) (ys : List X) → entry_at (cmp x) ys ≡ None → IsStrictlySortedBy cmp ys → IsStrictlySortedBy cmp (put cmp x ys)
 unfolding IsStrictlySortedBy
 put_rises total x [] new up = (tt, tt)
@@ -73,7 +73,7 @@ own_key {X} {cmp} total x = go (cmp x x) (total.antisymm x x)
     go Equal is = refl
     go Greater is = absurd (cc)
 
--- if no entry had the key, the inserted one is found
+-- if no entry had the key, looking it up finds the inserted entry
 pub found_put : {X : Type 0} {cmp : X → X → Ordering} → IsTotalOrder cmp → (x : X) (ys : List X) → entry_at (cmp x) ys ≡ None → entry_at (cmp x) (put cmp x ys) ≡ Some x
 found_put total x [] none = rw (own_key total x) refl
 found_put {X} {cmp} total x (y ∷ ys) none = go (is_eq (cmp x y)) refl (is_lt (cmp x y)) (λ later. found_put total x ys later)
@@ -89,19 +89,19 @@ pub record IsMap {X : Type 0} (test : X → Bool) (cmp : X → X → Ordering) (
   pub in_range : list_all test xs ≡ true
   pub rises : IsStrictlySortedBy cmp xs
 
--- if a passing entry with a new key is inserted, the result is such a map
+-- inserting an entry with a new key that passes the test results in such a map
 pub put_is_map : {X : Type 0} {test : X → Bool} {cmp : X → X → Ordering} → IsTotalOrder cmp → (x : X) (ys : List X) → test x ≡ true → entry_at (cmp x) ys ≡ None → IsMap test cmp ys
     → IsMap test cmp (put cmp x ys)
 put_is_map {X} {test} {cmp} total x ys good new is = record { in_range = put_all cmp test x ys good is.in_range; rises = put_rises total x ys new is.rises }
 
 -- ---- inserting an entry
 
--- if no entry passes a test, none is left by the filter
+-- if no entry passes a test, filtering leaves none
 pub filter_none : {X : Type 0} (p : X → Bool) (xs : List X) → list_all (λ x. not (p x)) xs ≡ true → filter p xs ≡ []
 filter_none p [] none = refl
 filter_none p (x ∷ xs) none = rw (not-true (p x) (and_parts _ _ none).0) (filter_none p xs (and_parts _ _ none).1)
 
--- an inserted entry with a different key doesn't change what is found
+-- an inserted entry with a different key doesn't change which entry is found
 pub found_put_other : {X : Type 0} (cmp : X → X → Ordering) (compared : X → Ordering) (x : X) (ys : List X) → is_eq (compared x) ≡ false → entry_at compared (put cmp x ys) ≡ entry_at compared ys
 found_put_other cmp compared x [] other = rw other refl
 found_put_other {X} cmp compared x (y ∷ ys) other = elim (is_lt (cmp x y)) as (λ b. entry_at compared (cond b (x ∷ y ∷ ys) (y ∷ put cmp x ys)) ≡ entry_at compared (y ∷ ys)) [
@@ -109,7 +109,7 @@ found_put_other {X} cmp compared x (y ∷ ys) other = elim (is_lt (cmp x y)) as 
   | false ↦ ap (λ (o : Option X). cond (is_eq (compared y)) (Some y) o) (found_put_other cmp compared x ys other)
 ]
 
--- an inserted entry that fails a test doesn't change which entries pass
+-- an inserted entry that fails a test doesn't change which entries pass it
 pub filter_put : {X : Type 0} (cmp : X → X → Ordering) (p : X → Bool) (x : X) (ys : List X) → p x ≡ false → filter p (put cmp x ys) ≡ filter p ys
 filter_put cmp p x [] fails = rw fails refl
 filter_put {X} cmp p x (y ∷ ys) fails = elim (is_lt (cmp x y)) as (λ b. filter p (cond b (x ∷ y ∷ ys) (y ∷ put cmp x ys)) ≡ filter p (y ∷ ys)) [
@@ -117,7 +117,7 @@ filter_put {X} cmp p x (y ∷ ys) fails = elim (is_lt (cmp x y)) as (λ b. filte
   | false ↦ ap (λ (zs : List X). cond (p y) (y ∷ zs) zs) (filter_put cmp p x ys fails)
 ]
 
--- an entry that was found is still found if the inserted entry has a new key
+-- an entry that was found is still found after an entry with a new key is inserted
 pub found_put_new : {X : Type 0} {cmp : X → X → Ordering} → IsTotalOrder cmp → (k x y : X) (ys : List X) → entry_at (cmp x) ys ≡ None → entry_at (cmp k) ys ≡ Some y
     → entry_at (cmp k) (put cmp x ys) ≡ Some y
 found_put_new {X} {cmp} total k x y ys new found = go (cmp k x) refl
@@ -157,15 +157,15 @@ kept_all p q (x ∷ xs) all = elim (q x) as (λ b. list_all p (cond b (x ∷ fil
   | false ↦ kept_all p q xs (and_parts _ _ all).1
 ]
 
--- if every entry passes a test, every entry still does after one is removed
+-- if every entry passes a test, every remaining entry still does after one is removed
 pub without_all : {X : Type 0} (compared : X → Ordering) (p : X → Bool) (xs : List X) → list_all p xs ≡ true → list_all p (without compared xs) ≡ true
 without_all compared p xs all = kept_all p (λ x. not (is_eq (compared x))) xs all
 
--- if an entry is removed from a map, the result is a map
+-- removing an entry from a map results in a map
 pub without_is_map : {X : Type 0} {test : X → Bool} {cmp : X → X → Ordering} (compared : X → Ordering) (xs : List X) → IsMap test cmp xs → IsMap test cmp (without compared xs)
 without_is_map {X} {test} {cmp} compared xs is = record { in_range = without_all compared test xs is.in_range; rises = IsStrictlySortedBy-filter cmp (λ x. not (is_eq (compared x))) xs is.rises }
 
--- if the removed entry fails a test, the entries that pass are the same
+-- if the removed entry fails a test, the entries that pass it are unchanged
 pub filter_without : {X : Type 0} (compared : X → Ordering) (p : X → Bool) (xs : List X) → ((x : X) → is_eq (compared x) ≡ true → p x ≡ false) → filter p (without compared xs) ≡ filter p xs
 filter_without compared p [] fails = refl
 filter_without {X} compared p (x ∷ xs) fails = go (is_eq (compared x)) refl (filter_without compared p xs fails)
@@ -185,13 +185,13 @@ unfolding IsStrictlySortedBy
 map_rises f same [] up = tt
 map_rises {X} {cmp} f same (x ∷ xs) up = (each_map (λ y. cmp x y ≡ Less) (λ y. cmp (f x) y ≡ Less) f xs (λ y below. same x y ∙ below) up.0, map_rises f same xs up.1)
 
--- a change that preserves every key, and that never makes a passing entry fail the test
+-- a change that preserves every key and never makes a passing entry fail the test
 pub record Keeps {X : Type 0} (test : X → Bool) (cmp : X → X → Ordering) (change : X → X) : Type 0 where
   pub passes : (x : X) → test x ≡ true → test (change x) ≡ true
   pub before : (x y : X) → cmp (change x) y ≡ cmp x y
   pub behind : (x y : X) → cmp x (change y) ≡ cmp x y
 
--- if an entry of a map is changed in this way, the result is a map
+-- applying such a change to an entry of a map results in a map
 pub changed_is_map : {X : Type 0} {test : X → Bool} {cmp : X → X → Ordering} (compared : X → Ordering) (change : X → X) → Keeps test cmp change → (xs : List X) → IsMap test cmp xs
     → IsMap test cmp (changed compared change xs)
 changed_is_map {X} {test} {cmp} compared change keeps xs is = record { in_range = list_all-map test next xs ∙ passing xs is.in_range; rises = map_rises next same xs is.rises }
@@ -216,7 +216,7 @@ changed_is_map {X} {test} {cmp} compared change keeps xs is = record { in_range 
         go false true = keeps.behind x y
         go false false = refl
 
--- what is found is what was found before, with the change made if it is the changed entry
+-- the entry found is the one found before, with the change applied if it is the changed entry
 pub changed_at : {X : Type 0} (compared other : X → Ordering) (change : X → X) → ((x : X) → other (change x) ≡ other x) → (xs : List X)
     → entry_at other (changed compared change xs) ≡ option_map (λ x. cond (is_eq (compared x)) (change x) x) (entry_at other xs)
 changed_at compared other change same [] = refl
@@ -235,7 +235,7 @@ changed_at {X} compared other change same (x ∷ xs) = go (is_eq (compared x)) r
     go true is later = rw (same x) (found (is_eq (other x)) (change x) (rw is refl) later)
     go false is later = found (is_eq (other x)) x (rw is refl) later
 
--- the same entries exist as before
+-- an entry is found if and only if one was found before
 pub found_changed : {X : Type 0} (compared other : X → Ordering) (change : X → X) → ((x : X) → other (change x) ≡ other x) → (xs : List X)
     → is_some (entry_at other (changed compared change xs)) ≡ is_some (entry_at other xs)
 found_changed {X} compared other change same xs = ap is_some (changed_at compared other change same xs) ∙ mapped (entry_at other xs)
@@ -255,7 +255,7 @@ found_key {X} compared x (y ∷ ys) found = go (is_eq (compared y)) refl (λ lat
     go true is later = let first : Some y ≡ Some x = rw is at found in let same : y ≡ x = cc in ap (λ (z : X). is_eq (compared z)) (sym same) ∙ is
     go false is later = later (rw is at found)
 
--- a property of all entries is a property of the entry that is found
+-- if all entries have a property, so does the entry that is found
 pub found_passes : {X : Type 0} (compared : X → Ordering) (p : X → Bool) (x : X) (ys : List X) → list_all p ys ≡ true → entry_at compared ys ≡ Some x → p x ≡ true
 found_passes compared p x [] all found = absurd (cc)
 found_passes {X} compared p x (y ∷ ys) all found = go (is_eq (compared y)) refl (λ later. found_passes compared p x ys (and_parts _ _ all).1 later)
@@ -264,8 +264,8 @@ found_passes {X} compared p x (y ∷ ys) all found = go (is_eq (compared y)) ref
     go true is later = let first : Some y ≡ Some x = rw is at found in let same : y ≡ x = cc in ap p (sym same) ∙ (and_parts _ _ all).0
     go false is later = later (rw is at found)
 
--- All entries have a property if the entry that is found has it, and every other entry does: no two entries
--- have the same key.
+-- All entries have a property if the entry that is found has it and every other entry does, since no two
+-- entries have the same key.
 pub all_but_one : {X : Type 0} (cmp : X → X → Ordering) (p q : X → Bool) (e : X) (xs : List X) → IsStrictlySortedBy cmp xs → entry_at (cmp e) xs ≡ Some e → q e ≡ true
     → ((x : X) → is_eq (cmp e x) ≡ false → p x ≡ true → q x ≡ true) → list_all p xs ≡ true → list_all q xs ≡ true
 unfolding IsStrictlySortedBy
@@ -303,7 +303,8 @@ module _ {X : Type 0} (number : X → ℕ) (xs : List X) where
   pub found_number : (n : ℕ) (e : X) → entry_at (λ x. nat_cmp n (number x)) xs ≡ Some e → n ≡ number e
   found_number n e found = same_number n (number e) (found_key (λ x. nat_cmp n (number x)) e xs found)
 
-  -- every entry has a property if the entry with a number has it, and every entry with another number does
+  -- every entry has a property if the entry with the given number has it and every entry with another number
+  -- does
   pub all_but_number : (n : ℕ) (e : X) (p q : X → Bool) → IsStrictlySortedBy (on number nat_cmp) xs → entry_at (λ x. nat_cmp n (number x)) xs ≡ Some e → (n ≡ number e → q e ≡ true)
       → ((x : X) → (n == number x) ≡ false → p x ≡ true → q x ≡ true) → list_all p xs ≡ true → list_all q xs ≡ true
   all_but_number n e p q up found good others all =
@@ -324,17 +325,17 @@ module _ {X : Type 0} (number : X → ℕ) (xs : List X) where
 
 -- ---- several entries
 
--- if every entry passes a test, and the inserted ones do too, every entry still does
+-- if every entry passes a test, and the inserted entries do too, every entry still passes
 pub put_each_all : {X : Type 0} (cmp : X → X → Ordering) (p : X → Bool) (xs ys : List X) → list_all p xs ≡ true → list_all p ys ≡ true → list_all p (put_each cmp xs ys) ≡ true
 put_each_all cmp p [] ys good all = all
 put_each_all cmp p (x ∷ xs) ys good all = put_each_all cmp p xs (put cmp x ys) (and_parts _ _ good).1 (put_all cmp p x ys (and_parts _ _ good).0 all)
 
--- inserted entries that fail a test don't change which entries pass
+-- inserted entries that fail a test don't change which entries pass it
 pub filter_put_each : {X : Type 0} (cmp : X → X → Ordering) (p : X → Bool) (xs ys : List X) → list_all (λ x. not (p x)) xs ≡ true → filter p (put_each cmp xs ys) ≡ filter p ys
 filter_put_each cmp p [] ys fail = refl
 filter_put_each cmp p (x ∷ xs) ys fail = filter_put_each cmp p xs (put cmp x ys) (and_parts _ _ fail).1 ∙ filter_put cmp p x ys (not-true (p x) (and_parts _ _ fail).0)
 
--- ---- inserting an entry at the end of those that pass a test
+-- ---- inserting an entry after all others that pass a test
 
 each_kept : {X : Type 0} (P : X → Type 0) (p : X → Bool) (xs : List X) → AllByRecursion P xs → AllByRecursion P (filter p xs)
 each_kept P p [] all = tt
@@ -349,7 +350,8 @@ is_less Less is = refl
 is_less Equal is = absurd (cc)
 is_less Greater is = absurd (cc)
 
--- a passing entry is inserted among the entries that pass in the same place as among all entries
+-- inserting an entry that passes a test before filtering by that test is the same as inserting it after
+-- filtering
 pub filter_put_in : {X : Type 0} {cmp : X → X → Ordering} → IsTotalOrder cmp → (p : X → Bool) (x : X) (ys : List X) → p x ≡ true → IsStrictlySortedBy cmp ys
     → filter p (put cmp x ys) ≡ put cmp x (filter p ys)
 unfolding IsStrictlySortedBy
@@ -373,7 +375,7 @@ pub put_last : {X : Type 0} (cmp : X → X → Ordering) (x : X) (ys : List X) �
 put_last cmp x [] behind = refl
 put_last {X} cmp x (y ∷ ys) behind = rw behind.0 (ap (λ (zs : List X). y ∷ zs) (put_last cmp x ys behind.1))
 
--- an entry that passes a test is found among the entries that pass
+-- an entry that passes the test is still found after filtering by it
 pub found_filter : {X : Type 0} (compared : X → Ordering) (p : X → Bool) (ys : List X) → ((y : X) → is_eq (compared y) ≡ true → p y ≡ true) → entry_at compared (filter p ys) ≡ entry_at compared ys
 found_filter compared p [] passes = refl
 found_filter {X} compared p (y ∷ ys) passes = go (p y) refl (is_eq (compared y)) refl (found_filter compared p ys passes)
@@ -384,7 +386,7 @@ found_filter {X} compared p (y ∷ ys) passes = go (p y) refl (is_eq (compared y
     go false is true eq later = absurd (both_ways (p y) is (passes y eq))
     go false is false eq later = later
 
--- if no entry has the key, none is found
+-- if no entry has the key, no entry is found
 pub found_none : {X : Type 0} (compared : X → Ordering) (ys : List X) → AllByRecursion (λ y. is_eq (compared y) ≡ false) ys → entry_at compared ys ≡ None
 found_none compared [] others = refl
 found_none compared (y ∷ ys) others = rw others.0 (found_none compared ys others.1)

@@ -1,4 +1,4 @@
--- Bundles that move to other places, among all bundles of an office.
+-- Bundles that move to other places, among all the bundles of an office.
 use Rattle.std.proofs.Common.{◌≡◌, ℕ, ◌==◌, Bool, true, false, cond, not, List, [], ◌∷◌, ◌++◌, map, filter, fold, refl, sym, ap, ◌∙◌}
 use Rattle.std.specs.List.{AllByRecursion, list_all}
 use Rattle.std.specs.List.Sorted.{IsStrictlySortedBy}
@@ -17,7 +17,7 @@ use Rattle.register.specs.Tabulated.{PlacedEntry, placed_cmp, placed_at, moved_t
 use Rattle.register.specs.Additions.{is_same_place}
 use Rattle.register.specs.Walks.{moved_bundles}
 
--- the bundles of papers are ordered by list
+-- the bundles of a list of papers are ordered by list
 pub bundled-rise : (papers : List (List ℕ)) → IsStrictlySortedBy list_cmp (map (λ (b : Bundle). b.0) (bundled papers))
 unfolding IsStrictlySortedBy
 bundled-rise papers = go [] papers tt
@@ -45,7 +45,7 @@ keeps_others x (m ∷ ms) xs apart =
     let parts = and_parts (not (is_eq (placed_cmp m x))) (list_all (λ m. not (is_eq (placed_cmp m x))) ms) apart in
     rw (not-true (is_eq (placed_cmp m x)) parts.0) (keeps_others x ms (moved_to m xs) parts.1)
 
--- two orders in sequence distinguish two entries if the first order does
+-- two orders in sequence distinguish two entries if the first one does
 first_apart : (o p : Ordering) → is_eq o ≡ false → is_eq (ordering_then o p) ≡ false
 first_apart Less p apart = refl
 first_apart Equal p apart = absurd (cc)
@@ -63,11 +63,11 @@ then_equal Greater p is same = is
 
 -- ---- bundles of other wards
 
--- none of these bundles belongs to the ward
+-- none of the given bundles belongs to the ward
 abbrev pub of_others : ℕ → List PlacedEntry → Bool
 of_others n xs = list_all (λ (x : PlacedEntry). not (n == x.ward)) xs
 
--- all of these bundles belong to the ward
+-- all of the given bundles belong to the ward
 abbrev pub of_ward : ℕ → List PlacedEntry → Bool
 of_ward n ms = list_all (λ (m : PlacedEntry). n == m.ward) ms
 
@@ -102,7 +102,7 @@ module _ (n : ℕ) where
     abbrev stays : Bundle → Bool
     stays b = is_same_place (before b.0) (after b.0)
 
-    -- if a bundle's place is the same, so is the placed bundle
+    -- if the place of a bundle is unchanged, so is its entry
     same_bundle : (b : Bundle) → stays b ≡ true → placed_at n b (before b.0) ≡ placed_at n b (after b.0)
     same_bundle b same =
         let parts = and_parts ((before b.0).holder == (after b.0).holder) ((before b.0).value == (after b.0).value) same in
@@ -111,7 +111,7 @@ module _ (n : ℕ) where
         made : ℕ → ℕ → PlacedEntry
         made holder value = record { ward = n; list = b.0; papers = b.1; holder = holder; value = value }
 
-    -- a bundle that precedes others, ordered by list, isn't one of them
+    -- a bundle that precedes the others, ordered by list, isn't one of them
     apart_behind : (x : Bundle) (bs : List Bundle) → AllByRecursion (λ list. list_cmp x.0 list ≡ Less) (map (λ (b : Bundle). b.0) bs)
         → moved_to (placed_at n x (after x.0)) (map (λ (b : Bundle). placed_at n b (before b.0)) bs) ≡ map (λ (b : Bundle). placed_at n b (before b.0)) bs
     apart_behind x [] above = refl

@@ -1,4 +1,4 @@
--- What the stage due results in for a given count, and what it adds to the tabulation.
+-- The result of the stage that is due in a given count, and what it adds to the tabulation.
 use Rattle.std.proofs.Common.{◌≡◌, ℕ, suc, ◌+◌, ◌==◌, true, false, List, [], ◌∷◌, map, length, reverse, Option, Some, None, refl, ap, ◌∙◌, arith}
 use Rattle.std.specs.Prelude.{IsSome}
 use Rattle.std.proofs.lemmas.Bool.{both_ways, eqb-true, eq-eqb}
@@ -21,12 +21,12 @@ use Rattle.register.specs.Additions.{moved_between, figures_added, addition_by, 
 use Rattle.register.specs.Walks.{moved_bundles, last_figures, all_added, moves_added}
 use Rattle.register.proofs.MovedLemmas.{walked-moves}
 
--- if an action is due, this is what it adds, whichever action it is
+-- whichever action is due, this is what it adds
 pub some_due : (e : ElectionEntry) (due : Option Action) (added : AdditionEntries) → IsSome due → ((action : Action) → due ≡ Some action → added ≡ addition_at e action) → added ≡ addition_due e due
 some_due e None added some each = absurd (cc)
 some_due e (Some action) added some each = each action refl
 
--- how another stage changes what was stored: the places and the stages
+-- how another stage changes what is stored, namely the places and the stages
 abbrev pub IsNext : Contest → List (ℕ × ℕ) → History → StoredCountEntry → List Placed → List Stage → Type 0
 IsNext contest lots history kept places stages = (places ≡ places_after contest (with_next contest lots history) kept.bundles) × (stages ≡ reverse (with_next contest lots history))
 
@@ -53,7 +53,7 @@ module _ (e : ElectionEntry) (action : Action) (ward : ℕ) (kept : StoredCountE
       (ap (λ (k : ℕ). map (figure_at e.ward.number k) (figures_at (columns_of e.candidates) (reverse (reverse (new ∷ before))))) (length-reverse (new ∷ before) ∙ stage)
       ∙ ap (λ (h : History). map (figure_at e.ward.number (length before + 1)) (figures_at (columns_of e.candidates) h)) (reverse-reverse (new ∷ before)))
 
-  -- as many stages are stored as are done
+  -- as many stages are stored as have been done
   as_many : length kept.stages ≡ length (stages_of e)
   as_many = ap (λ (ss : List Stage). length ss) of.stages_are ∙ length-reverse (stages_of e)
 

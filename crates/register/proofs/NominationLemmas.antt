@@ -1,4 +1,4 @@
--- Changes to candidates and wards that lead from a state to a state.
+-- Changes to candidates and wards that, applied to a state, yield a state.
 use Rattle.std.proofs.Common.{◌≡◌, ℕ, ◌==◌, not, Bool, true, false, cond, List, Option, Some, None, is_some, option_map, refl, sym, ap, ◌∙◌}
 use Rattle.std.specs.List.{list_all}
 use Rattle.std.specs.List.Sorted.{IsStrictlySortedBy}
@@ -21,14 +21,14 @@ use Rattle.register.proofs.ElsewhereLemmas.{IsBeforeCount, candidates_elsewhere,
 use Rattle.register.proofs.ObjectionLemmas.{IsThere}
 use Rattle.register.proofs.ItemLemmas.{MapName, ward_map, candidate_map, Holds, maps_of, AreJoined, state_from, candidate_total, are_placed, are_all, has_enough}
 
--- every ward has a property if the ward with a number has it, and every ward with another number does
+-- every ward has a property if the ward with the given number has it and every other ward does
 wards_but_one : (s : OfficeState) (n : ℕ) (w : WardEntry) (p q : WardEntry → Bool) → IsStrictlySortedBy ward_cmp s.wards → ward_at s n ≡ Some w → (n ≡ w.number → q w ≡ true)
     → ((x : WardEntry) → (n == x.number) ≡ false → p x ≡ true → q x ≡ true) → list_all p s.wards ≡ true → list_all q s.wards ≡ true
 wards_but_one s n w p q up found good others all = all_but_number (λ (x : WardEntry). x.number) s.wards n w p q up found good others all
 
--- ---- other candidates in one ward
+-- ---- other candidates in the same ward
 
--- the state with other candidates
+-- the state with its candidates replaced
 abbrev with_candidates : List CandidateEntry → OfficeState → OfficeState
 with_candidates later s = record s { candidates = later }
 
@@ -75,7 +75,8 @@ added_before s c own = record { number = c.ward; ward = own.ward; found = own.is
 pub withdrawn_before : (s : OfficeState) (n candidate : ℕ) → IsThere Nominations (ward_at s n) → IsBeforeCount s (candidate_withdrawn n candidate)
 withdrawn_before s n candidate own = record { number = n; ward = own.ward; found = own.is; not_sealed = ap is_counted own.phased; own = refl; wards = refl; lots = refl }
 
--- adding a candidate who has a new number and is in range, in a ward in nominations, leads to a state
+-- adding a candidate in a ward in nominations yields a state if the candidate's number is new and the
+-- candidate is in range
 pub candidate_stays : (s : OfficeState) (c : CandidateEntry) → is_candidate c ≡ true → candidate_at s c.ward c.number ≡ None → IsThere Nominations (ward_at s c.ward) → IsState s
     → IsState (with_effect (candidate_added c) s)
 candidate_stays s c good new own is =
@@ -89,7 +90,7 @@ candidate_stays s c good new own is =
     maps candidate_map = put_is_map candidate_total c s.candidates good new (maps_of is candidate_map)
     maps m = maps_of is m
 
--- removing a candidate in a ward in nominations leads to a state
+-- removing a candidate from a ward in nominations yields a state
 pub withdrawn_stays : (s : OfficeState) (n candidate : ℕ) → IsThere Nominations (ward_at s n) → IsState s → IsState (with_effect (candidate_withdrawn n candidate) s)
 withdrawn_stays s n candidate own is =
     let effect = candidate_withdrawn n candidate in
@@ -101,15 +102,15 @@ withdrawn_stays s n candidate own is =
     maps candidate_map = without_is_map (candidate_compared n candidate) s.candidates (maps_of is candidate_map)
     maps m = maps_of is m
 
--- ---- changing the ward with a number
+-- ---- changing the ward with the given number
 
--- a change that preserves every ward's number, and keeps the ward polled if it was
+-- a change that preserves every ward's number and keeps a polled ward polled
 pub record KeepsWards (change : WardEntry → WardEntry) : Type 0 where
   pub map : Keeps is_ward ward_cmp change
   pub compared : (m : ℕ) (x : WardEntry) → ward_compared m (change x) ≡ ward_compared m x
   pub polled : (x : WardEntry) (cs : List CandidateEntry) → is_polled (Some x) cs ≡ true → is_polled (Some (change x)) cs ≡ true
 
--- moving to any phase past nominations is such a change, and so is setting any number of stages done
+-- moving to any phase past nominations is such a change, and so is setting any number of completed stages
 pub moved : (phase : Phase) → (phase_number phase == phase_number Nominations) ≡ false → KeepsWards (in_phase phase)
 unfolding is_ward
 moved phase beyond =
@@ -119,7 +120,7 @@ pub staged : (done : ℕ) → KeepsWards (at_stage done)
 unfolding is_ward
 staged done = record { map = record { passes = λ x h. h; before = λ x y. refl; behind = λ x y. refl }; compared = λ m x. refl; polled = λ x cs was. was }
 
--- the state after changing the ward with a number
+-- the state after changing the ward with the given number
 abbrev pub with_ward : ℕ → (WardEntry → WardEntry) → OfficeState → OfficeState
 with_ward n change s = record s { wards = changed (ward_compared n) change s.wards }
 
@@ -153,7 +154,7 @@ module _ (s : OfficeState) (n : ℕ) (w : WardEntry) (change : WardEntry → War
       let parts = and_parts (not (b.first_clerk == b.second_clerk)) (is_polled (ward_at s b.ward) (candidates_of s b.ward)) out in
       record { given_out = and_from _ _ parts.0 (polled_still b.ward (candidates_of s b.ward) parts.1); candidates = refl }
 
-  -- an existing ward, after the change, still has enough candidates, and its count is right
+  -- the change yields a state if the changed ward still has enough candidates and its election is sound
   pub changed_stays : has_enough (change w) (candidates_of s (change w).number) ≡ true → is_sound (election_of s (change w)) ≡ true → IsState s → IsState (with_ward n change s)
   changed_stays enough sound is =
       let placed = and_parts (are_placed s) (are_all has_enough s) is.nominated in

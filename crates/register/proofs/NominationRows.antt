@@ -1,4 +1,4 @@
--- Nominations, computed: candidates are added and withdrawn, and each refusal occurs.
+-- Examples of nominations, checked by computation: candidates are added and withdrawn, and each refusal occurs.
 use Rattle.std.proofs.Common.{ℕ, true, false, ◌≡◌, List, [], ◌∷◌, codes, refl, string_bytes}
 use Rattle.std.specs.Fmt.{digits}
 use Rattle.std.specs.declared.string.String.{String}
@@ -18,7 +18,7 @@ use Rattle.register.specs.Candidates as candidates
 use Rattle.register.specs.Machine.{accepted, kept, refused, step, decided}
 use Rattle.register.proofs.WorkedRows.{name_eve, nameless}
 
--- an office with ward Quay, which has two seats, in this phase, with these candidates and receipts
+-- an office with Quay ward, which has two seats and is in the given phase, and with the given candidates and receipts
 abbrev with_quay : Phase → List CandidateEntry → List ReceiptEntry → OfficeState
 with_quay phase candidates receipts = record empty_office { wards = record { number = 8; seats = 2; phase = phase; done = 0; name = codes "Quay" } ∷ []; candidates = candidates; receipts = receipts }
 
@@ -31,11 +31,11 @@ eve = record { ward = 8; number = 2; name = codes "Eve" }
 fay : CandidateEntry
 fay = record { ward = 8; number = 3; name = codes "Fay" }
 
--- a receipt of the office with an id, a subject and a reply
+-- a receipt for an office request, with the given id, subject and reply
 abbrev office_receipt : List ℕ → List ℕ → List ℕ → ReceiptEntry
 office_receipt id subject reply = record { actor = 0; id = id; subject = subject; reply = reply }
 
--- the receipt of adding Eve, with id c2; and the receipt of her withdrawal, with id x1
+-- the receipt for adding Eve, with id c2; and the receipt for her withdrawal, with id x1
 eve_stands : ReceiptEntry
 eve_stands = office_receipt (codes "c2") (codes "candidate 8 2") (codes "candidate 2 of ward 8 added")
 
@@ -80,7 +80,7 @@ too_late_to_withdraw : step (with_quay Sealed (dee ∷ []) []) 0 (codes "x1") (C
 unfolding step decided is_id candidates.subject_of candidates.reply_to digits dee
 too_late_to_withdraw = refl
 
--- ---- which of these are states
+-- ---- which of the offices are states
 
 contested_in_keying : all_nominated (with_quay Keying (dee ∷ eve ∷ fay ∷ []) []) ≡ true
 unfolding dee eve fay
@@ -133,7 +133,7 @@ module _ (name : String Global) (is : string_bytes name ≡ codes "Eve") where
   unfolding step decided is_id candidates.subject_of candidates.reply_to digits dee eve eve_stands
   stands = simp (is, name_eve) refl
 
-  -- Eve withdraws, and her number can be used again; but the old id gets the old reply forever, and only a new id adds her
+  -- Eve withdraws, and her number can be used again; but the old id always gets the old reply, and only a new id adds her
   -- again
   withdraws : step (with_quay Nominations (dee ∷ eve ∷ []) (eve_stands ∷ [])) 0 (codes "x1") (Candidate (Withdraw 8 2))
       ≡ accepted (with_quay Nominations (dee ∷ []) (eve_stands ∷ eve_withdrew ∷ [])) (codes "candidate 2 of ward 8 withdrawn")

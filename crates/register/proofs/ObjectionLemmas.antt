@@ -15,7 +15,7 @@ no_objection (None ∷ os) none zero = refl
 no_objection (None ∷ os) none (suc place) = no_objection os none place
 no_objection (Some why ∷ os) none place = absurd (cc)
 
--- a required condition holds if there is no objection to its absence
+-- a required condition is met if there is no objection to its absence
 pub asked : (b : Bool) (why : Reason) → objection (not b) why ≡ None → b ≡ true
 asked true why none = refl
 asked false why none = absurd (cc)
@@ -25,7 +25,7 @@ pub absent : {X : Type 0} (o : Option X) (why : Reason) → objection (is_some o
 absent (Some x) why none = absurd (cc)
 absent None why none = refl
 
--- two phases with the same number are the same
+-- two phases with the same number are equal
 one_phase : (p q : Phase) → (phase_number p == phase_number q) ≡ true → p ≡ q
 one_phase Nominations Nominations same = refl
 one_phase Keying Keying same = refl
@@ -33,18 +33,19 @@ one_phase Sealed Sealed same = refl
 one_phase Declared Declared same = refl
 one_phase p q same = absurd (cc)
 
--- a ward exists and is in this phase
+-- a ward was found and is in the given phase
 pub record IsThere (phase : Phase) (found : Option WardEntry) : Type 0 where
   pub ward : WardEntry
   pub is : found ≡ Some ward
   pub phased : ward.phase ≡ phase
 
--- the ward that a command requires in this phase exists, if there is no objection to its absence or its phase
+-- the ward that a command requires to be in the given phase exists, if there is no objection to its absence or
+-- its phase
 pub there : (phase : Phase) (found : Option WardEntry) (why : Reason) → objection (not (is_in_phase phase found)) why ≡ None → IsThere phase found
 there phase None why none = absurd (cc)
 there phase (Some w) why none = record { ward = w; is = refl; phased = one_phase w.phase phase (asked (is_in_phase phase (Some w)) why none) }
 
--- a forbidden condition doesn't hold if there is no objection to it
+-- a forbidden condition isn't met if there is no objection to it
 pub unasked : (b : Bool) (why : Reason) → objection b why ≡ None → b ≡ false
 unasked true why none = absurd (cc)
 unasked false why none = refl

@@ -17,7 +17,7 @@ other_lengths (j ∷ js) (k ∷ ks) other = rw (other_lengths js ks (λ same. ot
     none true = refl
     none false = refl
 
--- a keying doesn't have a list of texts of a different length
+-- a keying doesn't match a list of texts of a different length
 pub other_counts : (ks : List KeyedEntry) (texts : List (List ℕ)) → length ks ≢ length texts → has_texts ks texts ≡ false
 unfolding has_texts
 other_counts [] [] other = absurd (other refl)

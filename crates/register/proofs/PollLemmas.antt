@@ -1,4 +1,4 @@
--- The papers of a ward, with another batch added.
+-- The papers of a ward when another batch is added.
 use Rattle.std.proofs.Common.{◌≡◌, ℕ, ◌+◌, ◌&&◌, Bool, true, false, cond, List, [], ◌∷◌, ◌++◌, length, map, filter, fold, refl, sym, ap, subst, ◌∙◌, arith, append-nil, append_assoc}
 use Rattle.std.specs.List.{flat_map, list_all}
 use Rattle.std.proofs.lemmas.Bool.{and_parts}
@@ -20,7 +20,7 @@ five = 1 ∷ 2 ∷ 3 ∷ 4 ∷ 5 ∷ []
 judgements_more : (columns : List ℕ) (piles : List Pile) (pile : Pile) → judgements columns (piles ++ pile ∷ []) ≡ judgements columns piles ++ judgements_in columns pile
 judgements_more columns piles pile = flat_map-append (judgements_in columns) piles (pile ∷ []) ∙ ap (λ js. judgements columns piles ++ js) (append-nil (judgements_in columns pile))
 
--- another judgement is counted under its code
+-- another judgement is counted under its own code
 counted_more : (n : ℕ) (js : List Judgement) (k : Judgement) → rejected_with js n + cond (is_rejected n k) 1 0 ≡ rejected_with (js ++ k ∷ []) n
 counted_more n [] k = go (is_rejected n k)
   where
@@ -44,7 +44,8 @@ rejected_more js (k ∷ ks) =
     ap (λ (rejected : List ℕ). fold and_rejected rejected ks) (rejected_one js k)
     ∙ (rejected_more (js ++ k ∷ []) ks ∙ ap (λ (ls : List Judgement). map (rejected_with ls) five) (append_assoc js (k ∷ []) ks))
 
--- what a batch adds to the papers, to the numbers of rejected papers, and to whether all is settled
+-- what a batch adds to the papers and to the numbers of rejected papers, and how it affects whether everything
+-- is settled
 pub added : (columns : List ℕ) (piles : List Pile) (pile : Pile) (old new : BallotsEntry) → old ≡ ballots_in columns piles
     → new.papers ≡ old.papers ++ flat_map preferences_by (judgements_in columns pile)
     → new.rejected ≡ fold and_rejected old.rejected (judgements_in columns pile) → new.settled ≡ (old.settled && is_settled pile) → new ≡ ballots_in columns (piles ++ pile ∷ [])
@@ -68,7 +69,7 @@ added columns piles pile old new was papers rejected settled =
 
 -- ---- settled batches
 
--- a paper adds its judgement when it is counted
+-- counting a paper adds its judgement
 pub judged_more : {P : Type 0} (holds : P → List (List ℕ) → Type 0) (old new : Ballots P) (js : List Judgement) (j : Judgement)
     → ((papers : List (List ℕ)) → holds old.papers papers → holds new.papers (papers ++ preferences_by j)) → new.rejected ≡ and_rejected old.rejected j → new.settled ≡ old.settled
     → StandFor holds old (ballots_by js) → StandFor holds new (ballots_by (js ++ j ∷ []))
@@ -92,7 +93,7 @@ judged_alone s columns (b ∷ bs) settled =
     ap (λ (js : List Judgement). js ++ judgements columns (map (pile_of s) bs)) own
     ∙ ap (λ (js : List Judgement). judgements_on columns (verdicts_of s b.number) (settled_papers s b) ++ js) (judged_alone s columns bs parts.1)
 
--- so the ballots of settled batches result from these judgements alone
+-- so the ballots of settled batches are determined by these judgements alone
 pub settled_alone : (s : OfficeState) (columns : List ℕ) (bs : List BatchEntry) → list_all is_settled (map (pile_of s) bs) ≡ true
     → ballots_in columns (map (pile_of s) bs) ≡ ballots_by (settled_judgements s columns bs)
 settled_alone s columns bs settled = go (judgements columns (map (pile_of s) bs)) (list_all is_settled (map (pile_of s) bs)) (judged_alone s columns bs settled) settled

@@ -1,5 +1,5 @@
--- An election is still sound after its nominations are closed, and after it is sealed, advanced, decided by a lot, or
--- declared.
+-- An election is still sound after its nominations are closed, after it is sealed or advanced, after a lot is drawn,
+-- and after it is declared.
 use Rattle.std.proofs.Common.{◌≡◌, ℕ, ◌+◌, ◌-◌, ◌<◌, Bool, true, false, cond, ◌==◌, nat_le, nat_eq, List, [], ◌∷◌, length, map, Option, Some, None, refl, sym, ap, ◌∙◌, arith}
 use Rattle.std.specs.List.{find, list_all, list_any}
 use Rattle.std.specs.Option.{option_map}
@@ -23,7 +23,7 @@ use Rattle.register.proofs.MapLemmas.{list_all_weaker, put_all, same_number, bot
 use Rattle.register.proofs.ElectionLemmas.{is_sound, sound_before, uncounted_before, unsealed, uncontested, sound_in, IsRightSoFar, right_in, right_at_start}
 use Rattle.register.proofs.StageLemmas.{acted, ended, IsWaitedFor, waited_for, stage_more, same_stages}
 
--- the election with its ward in another phase; with this number of stages done; or with other lots
+-- the election with its ward in another phase, with another number of completed stages, or with other lots
 abbrev pub in_phase_of : Phase → ElectionEntry → ElectionEntry
 in_phase_of phase e = record e { ward = in_phase phase e.ward }
 
@@ -64,7 +64,7 @@ pub record IsHeld (e : ElectionEntry) (due : Due) : Type 0 where
   pub contested : has_count e ≡ true
   pub is : due_by (contest_of e) e.lots (stages_of e) ≡ due
 
--- if anything is due, a count is held
+-- if anything is due, there is a count
 pub held : (e : ElectionEntry) (due : Due) → due_of e ≡ due → is_finished due ≡ false → IsHeld e due
 held e due is open_ = go (has_count e) refl is
   where
@@ -106,7 +106,7 @@ sound_declared e phased finished sound = go (has_count e) refl finished
 
 -- ---- a lot
 
--- an element that is found passes the test of the search, and any test that all elements pass
+-- an element that is found passes the test used for the search, and any test that all elements pass
 found_both : {X : Type 0} (p q : X → Bool) (x : X) (xs : List X) → list_all q xs ≡ true → find p xs ≡ Some x → (p x ≡ true) × (q x ≡ true)
 found_both p q x [] all found = absurd (cc)
 found_both {X} p q x (y ∷ ys) all found = go (p y) refl (λ later. found_both p q x ys (and_parts _ _ all).1 later) found
@@ -127,7 +127,7 @@ lot_elsewhere l k other (x ∷ ls) =
       | false ↦ ap (λ (o : Option (ℕ × ℕ)). cond (x.stage == k) (Some (lot_pair x)) o) (lot_elsewhere l k other ls)
     ]
 
--- if no lot for a stage is found, no lot has the key of one for that stage
+-- if no lot is found for a stage, no lot has the key of one for that stage
 pub lot_is_new : (l : LotEntry) (ls : List LotEntry) → find (λ (lot : ℕ × ℕ). lot.0 == l.stage) (map lot_pair ls) ≡ None → entry_at (lot_cmp l) ls ≡ None
 lot_is_new l [] none = refl
 lot_is_new l (x ∷ ls) none = go (x.stage == l.stage) refl (lot_is_new l ls) none
@@ -154,11 +154,11 @@ module _ (e : ElectionEntry) (ls : List LotEntry) (l : LotEntry) (kind : TiedFor
   waited : IsWaitedFor (contest_of e) e.lots (stages_of e) l.stage kind tied
   waited = let h = is_held in waited_for (contest_of e) e.lots (stages_of e) l.stage kind tied h.is
 
-  -- the lot is for the stage after those done
+  -- the lot is for the stage that follows the completed ones
   next_stage : l.stage ≡ e.ward.done + 1
   next_stage = let w = waited in let r = so_far in stage-due (contest_of e) (stages_of e) l.stage kind tied w.due ∙ ap (λ n. n + 1) r.stages
 
-  -- no lot for its stage is recorded
+  -- no lot has been recorded for that stage
   none_yet : (o : Option (ℕ × ℕ)) → find (λ (lot : ℕ × ℕ). lot.0 == l.stage) e.lots ≡ o → find (λ (lot : ℕ × ℕ). lot.0 == l.stage) e.lots ≡ None
   none_yet None is = is
   none_yet (Some lot) is =
@@ -183,11 +183,11 @@ module _ (e : ElectionEntry) (ls : List LotEntry) (l : LotEntry) (kind : TiedFor
   agree : (k : ℕ) → (l.stage == k) ≡ false → lot_for drawn_lots k ≡ lot_for e.lots k
   agree k other = ap (option_map (λ (x : ℕ × ℕ). x.1)) (lot_elsewhere l k other ls) ∙ ap (λ (ms : List (ℕ × ℕ)). lot_for ms k) (sym lots)
 
-  -- the stages before the one that waits for the lot are unchanged
+  -- the stages before the one that needs the lot are unchanged
   as_before : (k : ℕ) → k < l.stage → stages_to (contest_of e) drawn_lots k ≡ stages_to (contest_of e) e.lots k
   as_before k low = same_stages (contest_of e) e.lots drawn_lots l.stage agree k low
 
-  -- the stages done are unchanged
+  -- the completed stages are unchanged
   pub stages_still : stages_of (with_lots (put lot_cmp l ls) e) ≡ stages_of e
   stages_still = let n = next_stage in as_before e.ward.done (omega (arith, n))
 
@@ -209,7 +209,7 @@ module _ (e : ElectionEntry) (ls : List LotEntry) (l : LotEntry) (kind : TiedFor
       in
       and_from _ _ (le-leb l.stage (e.ward.done + 1) (omega (arith, n))) own
 
-  -- recording a lot that names one of the candidates tied
+  -- recording a lot that names one of the tied candidates
   pub sound_drawn : list_any (nat_eq l.candidate) tied ≡ true → is_sound (with_lots (put lot_cmp l ls) e) ≡ true
   sound_drawn among =
       let h = is_held in

@@ -36,7 +36,7 @@ use Rattle.register.proofs.KeyingLemmas.{keyed_among}
 
 -- ---- commands that a clerk may not send
 
--- commands other than a keying are refused, in any state, to everyone but the office
+-- for any actor other than the office, every command except a keying is refused in any state
 data IsOwn : Command → Type 0 where
   key : (command : KeyingCommand) → IsOwn (Key command)
   not_his : (command : Command) → ((part : CommandInputEntries) (actor : ℕ) → is_office actor ≡ false → first_reason (objections actor command part) ≡ Some NumberOutOfRange) → IsOwn command
@@ -49,9 +49,9 @@ kind_of (Batch (Again batch)) = not_his _ (λ part actor other. rw other refl)
 kind_of (Count (Seal ward)) = not_his _ (λ part actor other. rw other refl)
 kind_of command = not_his _ (λ part actor other. rw other refl)
 
--- ---- what a clerk sees of the part that a request needs
+-- ---- what a clerk sees of the part of the state that a request needs
 
--- filtering by a weaker test first makes no difference to filtering by a stronger one
+-- filtering by a weaker test first doesn't change the result of filtering by a stronger one
 filter_both : {X : Type 0} (p q : X → Bool) → ((x : X) → p x ≡ true → q x ≡ true) → (xs : List X) → filter p (filter q xs) ≡ filter p xs
 filter_both p q stronger [] = refl
 filter_both {X} p q stronger (x ∷ xs) = go (q x) refl (p x) refl (filter_both p q stronger xs)
@@ -79,7 +79,8 @@ module _ (s : OfficeState) (actor : ℕ) where
   own_seen batch round = filter_both (λ (k : KeyedEntry). (k.batch == batch) && ((k.round == round) && (k.clerk == actor))) (λ k. k.clerk == actor)
       (λ k passes. (and_parts (k.round == round) (k.clerk == actor) (and_parts (k.batch == batch) ((k.round == round) && (k.clerk == actor)) passes).1).1) s.keyings
 
-  -- the part that a keying needs, apart from the stages done in its ward
+  -- the part of the state that a keying needs is the same in what the clerk sees, apart from the completed stages of its
+  -- ward
   part_seen : (command : KeyingCommand) → keyings.part_of (seen_by actor s) actor command
       ≡ record (keyings.part_of s actor command) { ward = option_map (at_stage 0) (ward_for s (batch_at s command.batch)) }
   part_seen command =
@@ -90,7 +91,7 @@ module _ (s : OfficeState) (actor : ℕ) where
       by_batch None = refl
       by_batch (Some b) = ward_seen b.ward
 
--- the number of stages done doesn't affect the objections to a keying
+-- the number of completed stages doesn't affect the objections to a keying
 objections_alike : (actor : ℕ) (command : KeyingCommand) (part : CommandInputEntries) (ward : Option WardEntry)
     → keyings.objections actor command (record part { ward = option_map (at_stage 0) ward }) ≡ keyings.objections actor command (record part { ward = ward })
 objections_alike actor command part None = refl
@@ -171,7 +172,7 @@ module _ (s : OfficeState) (actor : ℕ) (id : List ℕ) (other_actor : is_offic
       go true None = judged_unseen other apart command (kind_of command)
 
   module _ (is : IsState s) where
-    -- an accepted keying changes what its clerk sees in the same way as it would change that view alone
+    -- an accepted keying changes what its clerk sees in the same way as it changes the state
     keyed_alone : (command : KeyingCommand) (r : ReceiptEntry) → r.actor ≡ actor → first_reason (keyings.objections actor command (keyings.part_of s actor command)) ≡ None
         → seen_by actor (with_change (record { effect = keyings.effect_of actor command; receipt = r }) s)
         ≡ with_change (record { effect = keyings.effect_of actor command; receipt = r }) (seen_by actor s)
@@ -210,7 +211,7 @@ module _ (s : OfficeState) (actor : ℕ) (id : List ℕ) (other_actor : is_offic
             ≡ state_after (seen_by actor s) (outcome_at (seen_by actor s) (cond b (keeps r.reply) (refuses IdUsed)))) [ true ↦ refl | false ↦ refl ]
         go true None = judged_alone command (kind_of command)
 
-    -- a clerk's request changes what the clerk sees in the same way as it would change that view alone
+    -- a clerk's request changes what the clerk sees in the same way as it changes the state
     pub stands_alone : (command : Command) → seen_by actor (state_after s (step s actor id command)) ≡ state_after (seen_by actor s) (step (seen_by actor s) actor id command)
     unfolding step
     stands_alone command = ruled_alone command ∙ ap (λ (ruling : Ruling). state_after (seen_by actor s) (outcome_at (seen_by actor s) ruling)) (sym (ruling_on_seen s actor id command other_actor))
@@ -244,9 +245,10 @@ work_seen s clerk = go s.batches
         here true later = both b _ _ later
         here false later = later
 
--- ---- the text of the papers to be keyed
+-- ---- the ballot paper text for the papers to be keyed
 
--- the ballot paper text depends only on what the clerk sees: everything about a ward but the number of stages done
+-- the ballot paper text depends only on what the clerk sees: everything about a ward except the number of completed
+-- stages
 pub paper_seen : (s : OfficeState) (clerk batch : ℕ) → paper_at (seen_by clerk s) clerk batch ≡ paper_at s clerk batch
 paper_seen s clerk batch = go (batch_at s batch)
   where

@@ -1,4 +1,4 @@
--- Numbered entries, split at the entry with a given number; and lists derived from every entry, joined.
+-- Numbered entries, split at the entry with the given number; and lists derived from each entry, concatenated.
 use Rattle.std.proofs.Common.{◌≡◌, ℕ, ◌==◌, Bool, true, false, cond, not, List, [], ◌∷◌, ◌++◌, Some, refl, ap, ◌∙◌}
 use Rattle.std.specs.List.{AllByRecursion, flat_map, list_all}
 use Rattle.std.specs.List.Sorted.{IsStrictlySortedBy}
@@ -13,12 +13,12 @@ use Rattle.register.proofs.MapLemmas.{same_number, other_number}
 
 -- ---- a list derived from each entry
 
--- if the lists derived from every entry are equal, so are the joined lists
+-- if the lists derived from each entry are equal, so are the concatenated lists
 pub flat_alike : {X Y : Type 0} (h k : X → List Y) (xs : List X) → ((x : X) → h x ≡ k x) → flat_map h xs ≡ flat_map k xs
 flat_alike h k [] same = refl
 flat_alike {X} {Y} h k (x ∷ xs) same = ap (λ (ys : List Y). ys ++ flat_map h xs) (same x) ∙ ap (λ (ys : List Y). k x ++ ys) (flat_alike h k xs same)
 
--- another entry whose derived list is empty adds nothing
+-- inserting an entry whose derived list is empty adds nothing
 pub flat_put : {X Y : Type 0} (cmp : X → X → Ordering) (h : X → List Y) (x : X) (xs : List X) → h x ≡ [] → flat_map h (put cmp x xs) ≡ flat_map h xs
 flat_put cmp h x [] none = ap (λ (ys : List _). ys ++ []) none
 flat_put {X} {Y} cmp h x (y ∷ ys) none = elim (is_lt (cmp x y)) as (λ b. flat_map h (cond b (x ∷ y ∷ ys) (y ∷ put cmp x ys)) ≡ flat_map h (y ∷ ys)) [
@@ -26,7 +26,7 @@ flat_put {X} {Y} cmp h x (y ∷ ys) none = elim (is_lt (cmp x y)) as (λ b. flat
   | false ↦ ap (λ (zs : List Y). h y ++ zs) (flat_put cmp h x ys none)
 ]
 
--- a change that preserves the list derived from every entry preserves the joined list
+-- a change that preserves the list derived from each entry preserves the concatenated list
 pub flat_changed : {X Y : Type 0} (compared : X → Ordering) (change : X → X) (h : X → List Y) (xs : List X) → ((x : X) → h (change x) ≡ h x) → flat_map h (changed compared change xs) ≡ flat_map h xs
 flat_changed compared change h [] same = refl
 flat_changed {X} {Y} compared change h (x ∷ xs) same =
@@ -36,13 +36,13 @@ flat_changed {X} {Y} compared change h (x ∷ xs) same =
     go true = same x
     go false = refl
 
--- ---- the entry with a number
+-- ---- the entry with the given number
 
--- no entry has the number
+-- no entry has the given number
 abbrev pub are_others : {X : Type 0} → (X → ℕ) → ℕ → List X → Bool
 are_others number n xs = list_all (λ x. not (n == number x)) xs
 
--- entries, split at the one with a number
+-- entries, split at the one with the given number
 pub record IsSplit {X : Type 0} (number : X → ℕ) (n : ℕ) (e : X) (xs : List X) : Type 0 where
   pub front : List X
   pub back : List X
@@ -80,7 +80,7 @@ module _ {X : Type 0} (number : X → ℕ) (n : ℕ) where
             behind = rest.behind;
           }
 
-  -- changing an entry with a number that no entry has leaves all entries unchanged
+  -- if no entry has the given number, changing the entry with that number leaves all entries unchanged
   changed_none : (change : X → X) (xs : List X) → are_others number n xs ≡ true → changed (λ x. nat_cmp n (number x)) change xs ≡ xs
   changed_none change [] others = refl
   changed_none change (x ∷ xs) others =
@@ -94,12 +94,12 @@ module _ {X : Type 0} (number : X → ℕ) (n : ℕ) where
       let parts = and_parts (not (n == number x)) (are_others number n xs) before in
       rw (unsigned_tied n (number x) ∙ not-true (n == number x) parts.0) (ap (λ (zs : List X). x ∷ zs) (changed_front change e xs ys own parts.1 behind))
 
-  -- changing the entry with the number leaves the others unchanged
+  -- changing the entry with the given number leaves the others unchanged
   pub changed_split : (change : X → X) (e : X) (xs : List X) → (split : IsSplit number n e xs) → changed (λ x. nat_cmp n (number x)) change xs ≡ split.front ++ (change e ∷ split.back)
   changed_split change e xs split =
       ap (changed (λ x. nat_cmp n (number x)) change) split.is
       ∙ changed_front change e split.front split.back (unsigned_tied n (number e) ∙ eq-eqb n (number e) split.number_is) split.before split.behind
 
-  -- the joined list of all entries, split in the same way
+  -- the concatenated list of all entries is split at the same entry
   pub flat_split : {Y : Type 0} (h : X → List Y) (e : X) (xs : List X) → (split : IsSplit number n e xs) → flat_map h xs ≡ flat_map h split.front ++ (h e ++ flat_map h split.back)
   flat_split h e xs split = ap (flat_map h) split.is ∙ flat_map-append h split.front (e ∷ split.back)

@@ -1,4 +1,4 @@
--- What is due and what is done in a count when a stage or a lot is added.
+-- What is due and what has been done in a count when a stage or a lot is added.
 use Rattle.std.proofs.Common.{◌≡◌, ℕ, zero, suc, ◌+◌, ◌<◌, ◌≤◌, Bool, true, false, cond, ◌==◌, nat_eq, List, ◌∷◌, length, Option, Some, None, refl, sym, ap, ◌∙◌, arith}
 use Rattle.std.specs.List.{list_any}
 use Rattle.std.proofs.lemmas.Bool.{ne_eqb}
@@ -13,7 +13,7 @@ use Rattle.register.specs.Elections.{is_finished, is_tied}
 
 -- ---- what is due given the lots
 
--- an action that is due given the lots is the next action
+-- if an action is due given the lots, it is the next action
 pub acted : (contest : Contest) (lots : List (ℕ × ℕ)) (stages : History) (action : Action) → due_by contest lots stages ≡ Act action → next_action contest lots stages ≡ Some action
 acted contest lots stages action is = go (due_after contest stages) (lot_for lots (length stages + 1)) is
   where
@@ -41,7 +41,7 @@ ended contest lots stages is = go (due_after contest stages) (next_action contes
     go due None is = is
     go due (Some action) is = absurd (cc)
 
--- the count is waiting for a lot: a lot is due, and no recorded lot names one of the candidates tied
+-- the count is waiting for a lot: a lot is due, and no recorded lot names one of the tied candidates
 pub record IsWaitedFor (contest : Contest) (lots : List (ℕ × ℕ)) (stages : History) (stage : ℕ) (kind : TiedFor) (tied : List ℕ) : Type 0 where
   pub due : due_after contest stages ≡ Lot stage kind tied
   pub undrawn : (c : ℕ) → lot_for lots (length stages + 1) ≡ Some c → is_tied (due_after contest stages) c ≡ false
@@ -70,7 +70,7 @@ waited_for contest lots stages stage kind tied is =
 
 -- ---- the stages counted so far
 
--- there are no more stages than asked for
+-- there are at most as many stages as requested
 pub stages_within : (contest : Contest) (lots : List (ℕ × ℕ)) (k : ℕ) → length (stages_to contest lots k) ≤ k
 unfolding stages_to
 stages_within contest lots zero = omega arith
@@ -80,7 +80,7 @@ stages_within contest lots (suc k) = go (next_action contest lots (stages_to con
     go None low = omega (arith, low)
     go (Some action) low = omega (arith, low)
 
--- there is one more stage if an action is next
+-- if an action is next, there is another stage
 pub stage_added : (contest : Contest) (lots : List (ℕ × ℕ)) (k : ℕ) (action : Action) → next_action contest lots (stages_to contest lots k) ≡ Some action
     → stages_to contest lots (k + 1) ≡ stage_of contest (stages_to contest lots k) action ∷ stages_to contest lots k
 unfolding stages_to
@@ -91,7 +91,7 @@ pub stage_more : (contest : Contest) (lots : List (ℕ × ℕ)) (k : ℕ) (actio
 stage_more contest lots k action next =
     ap (λ (s : History). length s) (stage_added contest lots k action next) ∙ (let one : suc (length (stages_to contest lots k)) ≡ length (stages_to contest lots k) + 1 = omega arith in one)
 
--- lots that agree on all stages but one lead to the same stages before that one
+-- lots that agree for all stages but one lead to the same stages before that one
 pub same_stages : (contest : Contest) (lots others : List (ℕ × ℕ)) (stage : ℕ) → ((k : ℕ) → (stage == k) ≡ false → lot_for others k ≡ lot_for lots k) → (k : ℕ) → k < stage
     → stages_to contest others k ≡ stages_to contest lots k
 unfolding stages_to

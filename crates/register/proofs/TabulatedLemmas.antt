@@ -1,4 +1,5 @@
--- The tabulation is in key order, and its part for each ward is that of the ward's election.
+-- The tabulation is in key order, and the part of it that belongs to a ward is determined by the ward's
+-- election.
 use Rattle.std.proofs.Common.{◌≡◌, ℕ, ◌+◌, ◌<◌, ◌≤◌, ◌==◌, Bool, true, false, cond, List, [], ◌∷◌, ◌++◌, length, map, filter, fold, Some, refl, sym, ap, ◌∙◌, append-nil, arith}
 use Rattle.std.specs.List.{AllByRecursion, flat_map}
 use Rattle.std.specs.List.Sorted.{IsStrictlySortedBy}
@@ -49,9 +50,9 @@ rises_append cmp (x ∷ xs) ys first second below = (each_append (λ y. cmp x y 
 
 -- ---- the entries of all wards, ward by ward
 
--- Each ward has entries that have its number and are in ascending order.
+-- Each ward has entries with the ward's number, in ascending order.
 module _ {X : Type 0} (ward : X → ℕ) (inner : X → X → Ordering) (parts : WardEntry → List X) (own : (w : WardEntry) → AllByRecursion (λ x. ward x ≡ w.number) (parts w)) where
-  -- the entry's ward number is above this number
+  -- the entry's ward number is above the given number
   abbrev IsAbove : ℕ → X → Type 0
   IsAbove n x = nat_cmp n (ward x) ≡ Less
 
@@ -69,7 +70,7 @@ module _ {X : Type 0} (ward : X → ℕ) (inner : X → X → Ordering) (parts :
       λ y less. ap (λ m. ordering_then (nat_cmp m (ward y)) (inner x y)) of.0 ∙ ap (λ o. ordering_then o (inner x y)) less in
       (each_weaker (IsAbove n) (λ y. then_cmp (on ward nat_cmp) inner x y ≡ Less) ys first above, below_all n xs ys of.1 above)
 
-  -- the entries of all wards together are in ascending order
+  -- the entries of all wards, taken together, are in ascending order
   pub parts_rise : ((w : WardEntry) → IsStrictlySortedBy (then_cmp (on ward nat_cmp) inner) (parts w)) → (ws : List WardEntry) → IsStrictlySortedBy (on (λ (w : WardEntry). w.number) nat_cmp) ws
       → IsStrictlySortedBy (then_cmp (on ward nat_cmp) inner) (flat_map parts ws)
   unfolding IsStrictlySortedBy
@@ -78,7 +79,7 @@ module _ {X : Type 0} (ward : X → ℕ) (inner : X → X → Ordering) (parts :
       rises_append (then_cmp (on ward nat_cmp) inner) (parts w) (flat_map parts ws) (each w) (parts_rise each ws up.1)
       (below_all w.number (parts w) (flat_map parts ws) (own w) (parts_above w.number ws up.0))
 
-  -- filtering by a number, if all entries have it and if none does
+  -- filtering by a number when every entry has it, and when no entry does
   filter_own : (n : ℕ) (xs : List X) → AllByRecursion (λ x. ward x ≡ n) xs → filter (λ x. ward x == n) xs ≡ xs
   filter_own n [] of = refl
   filter_own n (x ∷ xs) of = rw (eq-eqb (ward x) n of.0) (ap (λ (ys : List X). x ∷ ys) (filter_own n xs of.1))
@@ -92,7 +93,7 @@ module _ {X : Type 0} (ward : X → ℕ) (inner : X → X → Ordering) (parts :
       filter_others n xs (each_weaker (IsAbove n) (λ x. (ward x == n) ≡ false) xs
       (λ x less. let apart = ranked n (ward x) Less (sym less) in ne_eqb (ward x) n (λ same. omega (arith, apart, same))) above)
 
-  -- filtering by the number of an existing ward yields its entries
+  -- filtering by the number of an existing ward yields the ward's entries
   pub part_of : (n : ℕ) (w : WardEntry) (ws : List WardEntry) → IsStrictlySortedBy (on (λ (w : WardEntry). w.number) nat_cmp) ws → entry_at (λ (v : WardEntry). nat_cmp n v.number) ws ≡ Some w
       → filter (λ x. ward x == n) (flat_map parts ws) ≡ parts w
   unfolding IsStrictlySortedBy
@@ -158,7 +159,7 @@ module _ (e : ElectionEntry) where
 abbrev by_candidate : Figure → Figure → Ordering
 by_candidate = on (λ (f : Figure). f.candidate) nat_cmp
 
--- the figures of a stage are ordered by candidate; there are at most 30 candidates
+-- the figures of a stage are ordered by candidate, and there are at most 30 candidates
 module _ (s : Stage) (before : History) where
   abbrev shown : List ℕ → List Figure
   shown cs = map (figure_of s (s ∷ before)) cs ++ record { candidate = 99; units = s.lost; mark = 0 } ∷ []
@@ -182,8 +183,8 @@ unfolding IsStrictlySortedBy
 figures_rise_at cs s before up = (shown_above s before 0 cs (omega arith) up, shown_rise s before 0 cs up)
 
 module _ (ward : ℕ) where
-  -- a figure of a ward sorts before those of later stages, and before those of higher candidates at the same
-  -- stage
+  -- a figure of a ward sorts before those of later stages, and before those of higher-numbered candidates at
+  -- the same stage
   below_stage : (f g : FigureEntry) → f.ward ≡ ward → g.ward ≡ ward → f.stage < g.stage → figure_cmp f g ≡ Less
   below_stage f g one other earlier =
       ap (λ o. ordering_then o (ordering_then (nat_cmp f.stage g.stage) (nat_cmp f.candidate g.candidate))) (tied f.ward g.ward (one ∙ sym other))
@@ -205,7 +206,7 @@ module _ (ward : ℕ) where
   stage_rises stage [] up = tt
   stage_rises stage (f ∷ fs) up = (stage_above stage f fs up.0, stage_rises stage fs up.1)
 
-  -- a figure of the ward, for one of this many stages
+  -- a figure of the ward, from a stage no later than the given one
   abbrev IsWithin : ℕ → FigureEntry → Type 0
   IsWithin stages f = (f.ward ≡ ward) × (f.stage ≤ stages)
 

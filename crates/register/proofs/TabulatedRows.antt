@@ -1,4 +1,4 @@
--- The tabulation of the example count, computed.
+-- The tabulation of the example count, checked by computation.
 use Rattle.std.proofs.Common.{refl}
 use Rattle.count.specs.Law.Count.{stages_to}
 use Rattle.register.specs.WorkedTabulation.{WorkedTabulation}

@@ -1,4 +1,4 @@
--- Whatever leaves the counts of all wards unchanged also leaves the tabulation of the state unchanged.
+-- Anything that leaves the counts of all wards unchanged also leaves the tabulation of the state unchanged.
 use Rattle.std.proofs.Common.{◌≡◌, ℕ, true, false, cond, not, ◌==◌, List, [], ◌∷◌, ◌++◌, map, Some, refl, sym, ap, ◌∙◌}
 use Rattle.std.specs.Prelude.{⊤}
 use Rattle.std.specs.List.{flat_map}
@@ -20,10 +20,10 @@ use Rattle.register.proofs.ElectionLemmas.{is_sound, sound_of, uncounted_before,
 use Rattle.register.proofs.ElsewhereLemmas.{IsBeforeCount, election_elsewhere}
 use Rattle.register.proofs.ProgressLemmas.{in_phase_of, with_lots}
 
--- ---- entries for a count
+-- ---- entries derived from a count
 
--- Entries derived from an election's count: there are none before the count has a stage, and they don't change with the ward's phase, nor with lots that
--- leave the stages done unchanged.
+-- Entries derived from an election's count: there are none before the count has a stage, and they depend neither on the ward's phase nor on lots, as
+-- long as the completed stages are unchanged.
 pub record IsOfCount {X : Type 0} (told : ElectionEntry → List X) : Type 0 where
   pub none : (e : ElectionEntry) → has_stages e ≡ false → told e ≡ []
   pub of_phase : (e : ElectionEntry) (phase : Phase) → told (in_phase_of phase e) ≡ told e
@@ -43,11 +43,11 @@ figures_of_count = record {
   of_lots = λ e ls same. ap (λ (stages : History). cond (has_stages e) (figures_to e.ward.number (columns_of e.candidates) stages) []) same;
 }
 
--- an election in which no stage is done has no stages
+-- an election without completed stages has no stages
 pub no_stages : (e : ElectionEntry) → is_uncounted e ≡ true → has_stages e ≡ false
 no_stages e none = and_right (has_count e) (not (e.ward.done == 0)) (not_from_true (e.ward.done == 0) (and_parts _ _ none).0)
 
--- ---- entries for all wards
+-- ---- the entries of all wards
 
 abbrev pub told_by : {X : Type 0} → (ElectionEntry → List X) → OfficeState → List X
 told_by told s = flat_map (λ (w : WardEntry). told (election_of s w)) s.wards
@@ -59,7 +59,7 @@ same_tabulation s t bundles figures = ap (λ (bs : List PlacedEntry). made bs (t
     made : List PlacedEntry → List FigureEntry → TabulationEntries
     made bs fs = record { bundles = bs; figures = fs }
 
--- elections that are equal have the same entries
+-- equal elections have the same entries
 told_alike : {X : Type 0} (told : ElectionEntry → List X) (s t : OfficeState) → ((w : WardEntry) → election_of t w ≡ election_of s w) → (ws : List WardEntry)
     → flat_map (λ (w : WardEntry). told (election_of t w)) ws ≡ flat_map (λ (w : WardEntry). told (election_of s w)) ws
 told_alike told s t alike [] = refl
@@ -73,7 +73,7 @@ tabulation_alike s t wards alike = same_tabulation s t (whole bundles_in) (whole
     whole told = ap (flat_map (λ (w : WardEntry). told (election_of t w))) wards ∙ told_alike told s t alike s.wards
 
 module _ {X : Type 0} (told : ElectionEntry → List X) (of : IsOfCount told) (s : OfficeState) where
-  -- adding a ward in which no stage is done
+  -- adding a ward without completed stages
   told_added : (w : WardEntry) → w.done ≡ 0 → told_by told (with_effect (ward_added w) s) ≡ told_by told s
   told_added w none = flat_put ward_cmp (λ (x : WardEntry). told (election_of s x)) w s.wards (of.none (election_of s w) (and_right (has_count (election_of s w)) (not (w.done == 0)) (rw none refl)))
 
@@ -81,7 +81,7 @@ module _ {X : Type 0} (told : ElectionEntry → List X) (of : IsOfCount told) (s
   told_moved : (n : ℕ) (phase : Phase) → told_by told (with_effect (ward_moved n phase) s) ≡ told_by told s
   told_moved n phase = flat_changed (ward_compared n) (in_phase phase) (λ (x : WardEntry). told (election_of s x)) s.wards (λ x. of.of_phase (election_of s x) phase)
 
-  -- elections that are equal, except in one ward, whose entries are the same
+  -- if all elections are equal except one, and its entries are the same, all entries are the same
   pub told_but_one : (t : OfficeState) (n : ℕ) (w : WardEntry) → t.wards ≡ s.wards → IsSplit (λ (x : WardEntry). x.number) n w s.wards → told (election_of t w) ≡ told (election_of s w)
       → ((x : WardEntry) → (n == x.number) ≡ false → told (election_of t x) ≡ told (election_of s x)) → told_by told t ≡ told_by told s
   told_but_one t n w same split own others =
@@ -111,11 +111,11 @@ tabulation_added s w none = same_tabulation s (with_effect (ward_added w) s) (to
 pub tabulation_moved : (s : OfficeState) (n : ℕ) (phase : Phase) → tabulation_of (with_effect (ward_moved n phase) s) ≡ tabulation_of s
 tabulation_moved s n phase = same_tabulation s (with_effect (ward_moved n phase) s) (told_moved bundles_in bundles_of_count s n phase) (told_moved figures_in figures_of_count s n phase)
 
--- the wards of a state, split at an existing one
+-- the wards of a state, split at an existing ward
 pub wards_split : (s : OfficeState) (n : ℕ) (w : WardEntry) → IsState s → ward_at s n ≡ Some w → IsSplit (λ (x : WardEntry). x.number) n w s.wards
 wards_split s n w is found = split_at (λ (x : WardEntry). x.number) n w s.wards is.rise.wards found
 
--- an effect concerning a ward that hasn't been sealed leaves the tabulation unchanged
+-- an effect that concerns a ward that hasn't been sealed leaves the tabulation unchanged
 pub tabulation_kept : (s : OfficeState) (effect : EffectEntry) → IsState s → IsBeforeCount s effect → tabulation_of (with_effect effect s) ≡ tabulation_of s
 tabulation_kept s effect is before = same_tabulation s (with_effect effect s) (alike bundles_in bundles_of_count) (alike figures_in figures_of_count)
   where
@@ -133,7 +133,7 @@ tabulation_kept s effect is before = same_tabulation s (with_effect effect s) (a
         (of.none (election_of (with_effect effect s) before.ward) still_none ∙ sym (of.none (election_of s before.ward) (no_stages (election_of s before.ward) none)))
         (λ x other. ap told (election_elsewhere s before.number is x other effect before.own))
 
--- An effect leaves the whole tabulation unchanged, unless it counts a stage.
+-- An effect leaves the entire tabulation unchanged, unless it counts a stage.
 abbrev pub KeepsTabulation : OfficeState → EffectEntry → Type 0
 KeepsTabulation s (stage_counted ward done) = ⊤
 KeepsTabulation s effect = tabulation_of (with_effect effect s) ≡ tabulation_of s

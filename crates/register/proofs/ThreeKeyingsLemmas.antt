@@ -1,4 +1,4 @@
--- The keyings of a batch by its two or three clerks: what is preserved when another clerk keys.
+-- The keyings of a batch by its two or three clerks: what is preserved when another clerk keys the batch.
 use Rattle.std.proofs.Common.{inl, inr, ◌≡◌, ◌⊎◌, ℕ, ◌+◌, Bool, true, false, cond, codes, ◌&&◌, ◌||◌, ◌==◌, List, [], ◌∷◌, map, length, filter, find, Option, Some, None, refl, sym, ap, ◌∙◌}
 use Rattle.std.specs.List.{list_all}
 use Rattle.std.specs.Ordering.{nat_cmp, is_lt}
@@ -10,7 +10,7 @@ use Rattle.register.specs.Agreement.{is_keyed, of_three, same_marks, agreed, is_
 use Rattle.register.specs.BatchConditions.{are_numbered, is_whole}
 use Rattle.register.proofs.AgreedLemmas.{agreed_three}
 
--- the existing keyings of some clerks, given what each of them keyed
+-- the existing keyings by the given clerks, given what each clerk keyed
 abbrev pub keyed_by : (ℕ → List KeyedEntry) → List ℕ → List (List KeyedEntry)
 keyed_by f cs = filter is_keyed (map f cs)
 
@@ -21,19 +21,19 @@ not_keyed (k ∷ ks) none = absurd (cc)
 
 -- ---- any number of clerks
 
--- the keyings are the same if each clerk keyed the same
+-- two lists of keyings by the same clerks are equal if each clerk's keyings are equal
 pub keyed_alike : (f g : ℕ → List KeyedEntry) (cs : List ℕ) → ((c : ℕ) → f c ≡ g c) → keyed_by f cs ≡ keyed_by g cs
 keyed_alike f g [] same = refl
 keyed_alike f g (c ∷ cs) same =
     ap (λ (ks : List KeyedEntry). cond (is_keyed ks) (ks ∷ keyed_by f cs) (keyed_by f cs)) (same c)
     ∙ ap (λ (others : List (List KeyedEntry)). cond (is_keyed (g c)) (g c ∷ others) others) (keyed_alike f g cs same)
 
--- there are none if no clerk keyed anything
+-- if no clerk has keyed anything, there are no keyings
 pub none_keyed : (f : ℕ → List KeyedEntry) (cs : List ℕ) → ((c : ℕ) → f c ≡ []) → keyed_by f cs ≡ []
 none_keyed f [] none = refl
 none_keyed f (c ∷ cs) none = rw (none c) (none_keyed f cs none)
 
--- they are the same with another clerk who keyed nothing
+-- another clerk who hasn't keyed anything doesn't change the keyings
 pub put_unkeyed : (f : ℕ → List KeyedEntry) (c : ℕ) (cs : List ℕ) → f c ≡ [] → keyed_by f (put nat_cmp c cs) ≡ keyed_by f cs
 put_unkeyed f c [] none = rw none refl
 put_unkeyed f c (d ∷ ds) none = go (is_lt (nat_cmp c d)) (put_unkeyed f c ds none)
@@ -42,7 +42,7 @@ put_unkeyed f c (d ∷ ds) none = go (is_lt (nat_cmp c d)) (put_unkeyed f c ds n
     go true later = rw none refl
     go false later = ap (λ (others : List (List KeyedEntry)). cond (is_keyed (f d)) (f d ∷ others) others) later
 
--- if every keying passes a test, and new ones do too, every keying still does
+-- if every keying passes a test, and new keyings do too, every keying still passes
 pub all_grown : (p : List KeyedEntry → Bool) (f g : ℕ → List KeyedEntry) (cs : List ℕ) → ((c : ℕ) → (g c ≡ f c) ⊎ (p (g c) ≡ true)) → list_all p (keyed_by f cs) ≡ true
     → list_all p (keyed_by g cs) ≡ true
 all_grown p f g [] each all = refl
@@ -57,9 +57,9 @@ all_grown p f g (c ∷ cs) each all = go (g c) (f c) (each c) all (all_grown p f
     go (j ∷ js) (k ∷ ks) (inl same) all later = let parts = and_parts (p (k ∷ ks)) (list_all p (keyed_by f cs)) all in and_from _ _ (ap p same ∙ parts.0) (later parts.1)
     go (j ∷ js) (k ∷ ks) (inr passes) all later = and_from _ _ passes (later (and_parts (p (k ∷ ks)) (list_all p (keyed_by f cs)) all).1)
 
--- ---- a batch has three clerks, one of whom may be missing
+-- ---- a batch has three clerks, although one may be missing
 
--- what a clerk keyed, if there is such a clerk
+-- what a clerk keyed, if that clerk exists
 abbrev pub of_one : (ℕ → List KeyedEntry) → Option ℕ → List KeyedEntry
 of_one f None = []
 of_one f (Some c) = f c
@@ -114,7 +114,7 @@ alike_doubtful n p (j ∷ js) (k ∷ ks) first second same =
 
 -- ---- adding keyings
 
--- a keying is unchanged, or didn't exist before
+-- a keying is unchanged or didn't exist before
 abbrev pub Grows : List KeyedEntry → List KeyedEntry → Type 0
 Grows old new = (new ≡ old) ⊎ (old ≡ [])
 
@@ -199,7 +199,7 @@ module _ (p size : ℕ) where
       go true s was = was
       go false s was = absurd (cc)
 
-  -- a doubtful paper among a batch's agreed papers remains one when another clerk keys
+  -- a doubtful paper among a batch's agreed papers remains among them when another clerk keys the batch
   pub doubtful_still : (a b c x y z : List KeyedEntry) → Grows a x → Grows b y → Grows c z → list_all (is_whole size) (of_three x y z) ≡ true
       → has_doubtful (agreed (of_three a b c)) p ≡ true → has_doubtful (agreed (of_three x y z)) p ≡ true
   doubtful_still a b c x y z (inl i) (inl j) (inl k) all was = rw (i, j, k) was

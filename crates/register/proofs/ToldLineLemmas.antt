@@ -1,4 +1,4 @@
--- In replies, the parts that state a poll, an action or the elected candidates are lines.
+-- In replies, the parts that describe a poll, an action or the elected candidates are lines.
 use Rattle.std.proofs.Common.{inl, inr, ◌≡◌, ℕ, suc, ◌+◌, ◌*◌, ◌/◌, ◌≤◌, Bool, true, false, cond, not, ◌==◌, nat_le, nat_lt, codes, List, [], ◌∷◌, length, map, filter, fold, Option, Some}
 use Rattle.std.proofs.Common.{refl, sym, ap, subst, ◌∙◌, arith, length-append}
 use Rattle.std.specs.Fmt.{decimal}
@@ -36,7 +36,7 @@ use Rattle.register.proofs.ContestLemmas.{few_among, few_batches}
 
 -- ---- numbers of candidates
 
--- all these numbers are candidate numbers
+-- all the given numbers are candidate numbers
 abbrev pub are_small : List ℕ → Bool
 are_small ns = list_all (λ n. nat_le n max_candidates) ns
 
@@ -90,7 +90,7 @@ exclusion_line contest stages c column true =
     line_within (line_append (given (codes "exclusion of ") refl) (line_append (candidate_line c column) (given (codes ", last vacancies") refl))) (omega arith)
 exclusion_line contest stages c column false = line_within (line_append (given (codes "exclusion of ") refl) (candidate_line c column)) (omega arith)
 
--- the part that states the next action is a line
+-- the part that describes the next action is a line
 pub action_line : (contest : Contest) (stages : History) (lot : Option ℕ) (action : Action) → IsCandidateSet contest.candidates → drawn contest stages lot (due_after contest stages) ≡ Some action
     → IsLine 40 (action_text action)
 action_line contest [] lot action set next =
@@ -121,7 +121,7 @@ quota_line papers seats few =
     let whole : quota_of papers seats / 100000 ≤ papers + 1 = omega (arith, part) in
     line_append (line_decimal 10 (quota_of papers seats / 100000) (omega arith) (omega (arith, whole, few)) (omega (arith, whole, few))) (fraction_line (quota_of papers seats))
 
--- a ward doesn't have more papers than the limit
+-- a ward has no more papers than the limit
 pub judgements_are_few : {s : OfficeState} → IsState s → (columns : List ℕ) (ward : ℕ) → length (judgements columns (piles_of s ward)) ≤ max_papers
 judgements_are_few {s} is columns ward =
     let batches = maps_of is batch_map in
@@ -151,7 +151,7 @@ few_rejected js =
     let fifth = length_kept (is_rejected 5) js in
     omega (arith, first, second, third, fourth, fifth)
 
--- the part that states a poll is a line, if its papers don't exceed the limit
+-- the part that describes a poll is a line, if the number of papers doesn't exceed the limit
 pub poll_line : (columns : List ℕ) (piles : List Pile) (seats : ℕ) → length (judgements columns piles) ≤ max_papers → IsLine 80 (poll_told (Some (poll_of seats (ballots_in columns piles))))
 poll_line columns piles seats few =
     let js = judgements columns piles in

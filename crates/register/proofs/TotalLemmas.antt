@@ -1,4 +1,4 @@
--- The valid and rejected papers of a ward together make up all of its papers.
+-- The valid and the rejected papers of a ward together make up all of its papers.
 use Rattle.std.proofs.Common.{◌≡◌, ℕ, zero, suc, ◌+◌, ◌<◌, ◌==◌, ◌&&◌, ◌||◌, nat_le, Bool, true, false, not, cond, List, [], ◌∷◌, length, map, filter, find, Some, Result, Ok, Err, codes}
 use Rattle.std.proofs.Common.{refl, sym, ap, subst, ◌∙◌, arith, length-append}
 use Rattle.std.specs.Prelude.{sum_by}
@@ -38,13 +38,13 @@ use Rattle.register.proofs.ContestLemmas.{round_now, length_map}
 
 -- ---- judgements
 
--- the paper is valid, or rejected with a code from 1 to 5
+-- the paper is either valid or rejected with a code from 1 to 5
 abbrev is_decided : Judgement → Bool
 is_decided (Valid prefs) = true
 is_decided (Rejected code) = is_between 1 5 code
 is_decided Open = false
 
--- how much a judgement adds to the number of papers rejected with a code
+-- how much a judgement adds to the number of papers rejected with the given code
 abbrev counts_for : Judgement → ℕ → ℕ
 counts_for j n = cond (is_rejected n j) 1 0
 
@@ -98,13 +98,13 @@ by_marking marking = go (marked_with 1 marking)
     go (c ∷ []) = refl
     go (c ∷ d ∷ cs) = refl
 
--- a paper is decided by marks that can be read
+-- marks that can be read decide a paper
 by_read : (doubtful : Judgement) (r : Result Keyed MarkFault) → is_read r ≡ true → (r ≡ Ok Doubtful → is_decided doubtful ≡ true) → is_decided (by_reading doubtful r) ≡ true
 by_read doubtful (Err fault) read decided = absurd (cc)
 by_read doubtful (Ok Doubtful) read decided = decided refl
 by_read doubtful (Ok (Marked marking)) read decided = by_marking marking
 
--- a paper is decided by marks that make it valid
+-- marks that make a paper valid decide it
 by_valid : (r : Result Keyed MarkFault) → is_judged_valid r ≡ true → is_decided (by_reading Open r) ≡ true
 by_valid (Err fault) valid = absurd (cc)
 by_valid (Ok Doubtful) valid = absurd (cc)
@@ -127,7 +127,7 @@ read_doubtful columns marks is = go (bytes_eq marks (codes "D")) refl is
     go true letter same = refl
     go false letter same = absurd (by_count (length (fields marks) == length columns) same)
 
--- a paper is decided by a verdict on a doubtful paper
+-- a verdict on a doubtful paper decides it
 by_one : (columns : List ℕ) (keying : List KeyedEntry) (v : JudgedEntry) → is_verdict_on columns keying v ≡ true → is_decided (by_verdict columns (Some v)) ≡ true
 by_one columns keying v on = go (v.code == 0) refl (and_parts (has_doubtful keying v.paper) _ on).1
   where
@@ -146,7 +146,7 @@ by_one columns keying v on = go (v.code == 0) refl (and_parts (has_doubtful keyi
     go true none is = by_valid (reading columns v.marks) (either (is_valid columns v.marks) (is_rejection_code v.code) (length v.marks == 0) (ap is_rejection_code (eqb-true v.code 0 none)) is)
     go false some is = within (and_parts (is_rejection_code v.code) (length v.marks == 0) is).0
 
--- a paper is decided by the verdict that is found for it
+-- the verdict that is found for a paper decides it
 by_found : (columns : List ℕ) (keying : List KeyedEntry) (paper : ℕ) (vs : List JudgedEntry) → list_all (is_verdict_on columns keying) vs ≡ true → has_verdict vs paper ≡ true
     → is_decided (by_verdict columns (find (λ (v : JudgedEntry). v.paper == paper) vs)) ≡ true
 by_found columns keying paper [] all has = absurd (cc)
@@ -160,7 +160,7 @@ by_found columns keying paper (v ∷ vs) all has = go (v.paper == paper) has (by
     go true is later = by_one columns keying v parts.0
     go false is later = later is
 
--- the conditions on a batch's papers and verdicts
+-- the conditions that a batch's papers and verdicts must meet
 record Counts (s : OfficeState) (columns : List ℕ) (b : BatchEntry) : Type 0 where
   whole : list_all (is_whole b.size) (keyings_now s b) ≡ true
   readable : list_all (λ k. is_readable columns k.marks) (taken_papers s b) ≡ true
@@ -210,7 +210,7 @@ batch_judged s columns b is settled =
       each = length_map (judgement_on columns verdicts) papers ∙ eqb-true (length papers) b.size (and_parts (length papers == b.size) _ whole).0;
     }
 
--- all settled batches have judgements on each of their papers
+-- each of the settled batches has a judgement on each of its papers
 each_judged : (s : OfficeState) (columns : List ℕ) (bs : List BatchEntry) → AllByRecursion (Counts s columns) bs → list_all is_settled (map (pile_of s) bs) ≡ true
     → (list_all is_decided (judgements columns (map (pile_of s) bs)) ≡ true) × (length (judgements columns (map (pile_of s) bs)) ≡ sum_by (λ (b : BatchEntry). b.size) bs)
 each_judged s columns [] each settled = (refl, refl)
@@ -224,7 +224,7 @@ each_judged s columns (b ∷ bs) each settled =
 
 -- ---- the batches of a ward in a state
 
--- each batch is found under its number
+-- looking up the number of a batch finds that batch
 found_each : (bs : List BatchEntry) → IsStrictlySortedBy batch_cmp bs → AllByRecursion (λ b. find (λ c. is_eq (batch_compared b.number c)) bs ≡ Some b) bs
 unfolding IsStrictlySortedBy
 found_each [] up = tt
@@ -238,7 +238,7 @@ found_each (b ∷ bs) up = (rw (unsigned_tied b.number b.number ∙ eq-eqb b.num
         let other : is_eq (nat_cmp c.number b.number) ≡ false = unsigned_tied c.number b.number ∙ ne_eqb c.number b.number (λ same. omega (arith, rank, same)) in
         (rw other found.0, behind cs less.1 found.1)
 
--- the marks of a clerk's keying of a batch can be read
+-- the marks in a clerk's keying of a batch can be read
 all_readable : (s : OfficeState) (b : BatchEntry) (clerk : ℕ) (ks : List KeyedEntry) → batch_at s b.number ≡ Some b → list_all (λ k. is_keyed_for s k (batch_at s k.batch)) ks ≡ true
     → list_all (λ k. is_readable (columns_for s b) k.marks) (filter (λ (k : KeyedEntry). (k.batch == b.number) && ((k.round == b.round) && (k.clerk == clerk))) ks) ≡ true
 all_readable s b clerk [] there keyed = refl
@@ -301,7 +301,7 @@ ward_counts s is ward (b ∷ bs) there fine rounds judged = go (b.ward == ward) 
     go true of later = (subst (λ n. Counts s (columns_of (candidates_of s n)) b) (eqb-true b.ward ward of) (batch_counts s is b there.0 good.0 all.0 on.0), later)
     go false of later = later
 
--- in a state, once a ward's batches are settled, its valid papers and the papers rejected with each code add up to all the papers of its batches
+-- in a state, once a ward's batches are settled, its valid papers and the papers rejected with each code add up to all the papers in its batches
 pub polls_add_up : (s : OfficeState) (w : WardEntry) → IsState s → (election_of s w).ballots.settled ≡ true
     → length (election_of s w).ballots.papers + all_rejected (election_of s w).ballots.rejected ≡ sum_by (λ (b : BatchEntry). b.size) (batches_of s w.number)
 polls_add_up s w is settled =

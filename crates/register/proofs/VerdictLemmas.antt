@@ -1,4 +1,4 @@
--- If there is no objection to a command for a doubtful paper, it leads from a state to a state, and leaves a receipt in range.
+-- If there is no objection to a verdict command, applying it to a state yields a state, and its receipt is in range.
 use Rattle.std.proofs.Common.{rules, ◌≡◌, ℕ, Bool, true, false, ◌&&◌, ◌==◌, ◌++◌, codes, List, [], ◌∷◌, filter, Option, Some, None, is_some, string_bytes, refl, sym, ap, ◌∙◌, arith, cond}
 use Rattle.std.specs.Fmt.{decimal}
 use Rattle.std.specs.List.{list_all}
@@ -30,7 +30,7 @@ use Rattle.register.proofs.ElsewhereLemmas.{judged_elsewhere, IsBeforeCount, bat
 use Rattle.register.proofs.TabulationLemmas.{tabulation_kept}
 use Rattle.register.proofs.ItemLemmas.{MapName, judged_map, Holds, maps_of, state_from, rounds_still, judged_total, IsFit, office_about}
 
--- the filtered entries still pass a test after a passing entry is inserted
+-- the filtered entries still pass a test after an entry that passes it is inserted
 put_kept : {X : Type 0} (cmp : X → X → Ordering) (p q : X → Bool) (x : X) (ys : List X) → p x ≡ true → list_all p (filter q ys) ≡ true → list_all p (filter q (put cmp x ys)) ≡ true
 put_kept {X} cmp p q x [] good all = elim (q x) as (λ b. list_all p (cond b (x ∷ []) []) ≡ true) [ true ↦ and_from _ _ good refl | false ↦ refl ]
 put_kept {X} cmp p q x (y ∷ ys) good all = elim (is_lt (cmp x y)) as (λ b. list_all p (filter q (cond b (x ∷ y ∷ ys) (y ∷ put cmp x ys))) ≡ true) [
@@ -43,8 +43,8 @@ put_kept {X} cmp p q x (y ∷ ys) good all = elim (is_lt (cmp x y)) as (λ b. li
     go true later each = and_from _ _ (and_parts _ _ each).0 (later (and_parts _ _ each).1)
     go false later each = later each
 
--- adding a verdict that is in range, on a doubtful paper among a batch's agreed papers, which has no verdict so far, leads to
--- a state
+-- adding a verdict yields a state if it is in range and is on a doubtful paper among a batch's agreed papers that has no
+-- verdict yet
 judged_stays : (s : OfficeState) (v : JudgedEntry) (b : BatchEntry) → is_judged_paper v ≡ true → batch_at s v.batch ≡ Some b → is_verdict_for s b v ≡ true
     → verdict_at s v.batch v.paper ≡ None → IsBeforeCount s (paper_judged v) → IsState s → IsState (with_effect (paper_judged v) s)
 judged_stays s v b good found on new before is =
@@ -73,7 +73,7 @@ judged_stays s v b good found on new before is =
 
 -- ---- the command
 
--- adding a verdict, as it is stored, leads to a state
+-- adding a verdict in the form in which it is stored yields a state
 verdict_stays : (s : OfficeState) (batch paper : ℕ) (verdict : Verdict) (b : BatchEntry) → is_batch_number batch ≡ true → is_paper_number paper ≡ true → batch_at s batch ≡ Some b
     → has_doubtful (taken_papers s b) paper ≡ true → is_verdict (columns_for s b) verdict ≡ true → verdict_at s batch paper ≡ None
     → IsBeforeCount s (paper_judged (judged_as batch paper verdict)) → IsState s
@@ -91,7 +91,7 @@ judged_batch : (batch paper : ℕ) (verdict : Verdict) → (judged_as batch pape
 judged_batch batch paper (Accept marks) = refl
 judged_batch batch paper (Reject code) = refl
 
--- the word that states a verdict is a line
+-- the word that reports a verdict is a line
 told : (columns : List ℕ) (verdict : Verdict) → is_verdict columns verdict ≡ true → IsLine 20 (verdict_word verdict)
 told columns (Accept marks) good = record { ascii = search rules; short = omega arith; plain = refl }
 told columns (Reject code) good =
@@ -99,7 +99,7 @@ told columns (Reject code) good =
     let high = upper 3 5 code good in
     line_append (words (codes " rejected ") (search rules) refl) (line_number 5 code (omega arith) (and_from _ _ (le-leb 1 code (omega (arith, low))) (le-leb code 5 high)))
 
--- the subjects of receipts for a verdict
+-- the subjects of receipts for verdicts
 judge_about : (m n : ℕ) → is_batch_number m ≡ true → is_paper_number n ≡ true → is_office_subject (codes "judge " ++ (decimal m ++ (codes " " ++ decimal n))) ≡ true
 unfolding is_office_subject
 judge_about m n h k = rw (are_plain-decimals last_batch most_papers m n (omega arith) (omega arith) h k) refl

@@ -17,11 +17,11 @@ use Rattle.register.specs.StateConditions.{is_candidate, IsState}
 use Rattle.register.proofs.MapLemmas.{kept_all}
 use Rattle.register.proofs.ItemLemmas.{candidate_map, maps_of}
 
--- numbers below this one
+-- all numbers are below the given one
 abbrev AreBelow : List ℕ → ℕ → Type 0
 AreBelow ns n = AllByRecursion (λ m. m < n) ns
 
--- a column above all others is last
+-- a column above all the others comes last
 column_last : (columns : List ℕ) (n : ℕ) → AreBelow columns n → with_column columns n ≡ columns ++ (n ∷ [])
 column_last columns n below = rw (lower columns below, upper columns below) refl
   where
@@ -37,7 +37,7 @@ below_more : (ns : List ℕ) (m n : ℕ) → AreBelow ns n → m < n → AreBelo
 below_more [] m n below low = (low, tt)
 below_more (k ∷ ns) m n below low = (below.0, below_more ns m n below.1 low)
 
--- the candidates of a ward, ordered by number, in range, with numbers above these columns
+-- the candidates of a ward, in range and ordered by number, with numbers above the given columns
 abbrev AreAbove : List ℕ → List CandidateEntry → Type 0
 AreAbove columns cs = AllByRecursion (λ c. AreBelow columns c.number) cs
 
@@ -45,7 +45,7 @@ above_more : (columns : List ℕ) (n : ℕ) (cs : List CandidateEntry) → AreAb
 above_more columns n [] above low = tt
 above_more columns n (c ∷ cs) above low = (below_more columns n c.number above.0 low.0, above_more columns n cs above.1 low.1)
 
--- the candidates of one ward, in ascending key order, have ascending numbers
+-- the candidates of a single ward, in key order, have ascending numbers
 numbers_rise : (ward : ℕ) (c : CandidateEntry) (cs : List CandidateEntry) → (c.ward == ward) ≡ true → list_all (λ d. d.ward == ward) cs ≡ true → AllByRecursion (λ d. candidate_cmp c d ≡ Less) cs
     → AllByRecursion (λ d. c.number < d.number) cs
 numbers_rise ward c [] of all less = tt

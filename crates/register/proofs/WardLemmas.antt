@@ -1,4 +1,5 @@
--- If there is no objection to a command for a ward, it leads from a state to a state, and leaves a receipt in range.
+-- If there is no objection to a ward command, applying it to a state yields a state, and its receipt is in
+-- range.
 use Rattle.std.proofs.Common.{rules, ◌≡◌, ℕ, Bool, true, false, cond, ◌&&◌, ◌==◌, ◌++◌, codes, List, Some, None, string_bytes, refl, sym, ap, ◌∙◌, arith}
 use Rattle.std.specs.Fmt.{decimal}
 use Rattle.std.proofs.lemmas.Bool.{and_parts, and_from}
@@ -25,7 +26,7 @@ use Rattle.register.proofs.ProgressLemmas.{sound_closed}
 use Rattle.register.proofs.TabulationLemmas.{tabulation_added, tabulation_moved}
 use Rattle.register.specs.Elections.{election_of}
 
--- the subjects of receipts for the commands for a ward
+-- the subjects of receipts for ward commands
 ward_about : (n : ℕ) → is_ward_number n ≡ true → is_office_subject (codes "ward " ++ decimal n) ≡ true
 unfolding is_office_subject
 ward_about n h = rw (is_plain-decimal last_ward n (omega arith) h) refl
@@ -41,7 +42,7 @@ told : (b : Bool) → IsLine 12 (cond b (codes " polled") (codes " uncontested")
 told true = record { ascii = search rules; short = omega arith; plain = refl }
 told false = record { ascii = search rules; short = omega arith; plain = refl }
 
--- a ward, contested or not, moves to a phase for which it has enough candidates
+-- a ward, whether contested or not, moves to a phase for which it has enough candidates
 closed_enough : (w : WardEntry) (candidates : List CandidateEntry) → is_stood_in candidates ≡ true → (b : Bool) → is_contested w candidates ≡ b
     → has_enough (in_phase (cond b Keying Sealed) w) candidates ≡ true
 closed_enough w candidates stood true is = is

@@ -1,4 +1,4 @@
--- The example office, computed.
+-- The example office, checked by computation.
 use Rattle.std.proofs.Common.{◌≡◌, true, false, codes, refl}
 use Rattle.std.specs.Fmt.{digits}
 use Rattle.std.specs.Char.{encode_utf8}

@@ -1,4 +1,4 @@
--- The commands for batches: for each, the part of the state that it needs, the objections to it, and its subject, reply and effect.
+-- Batch commands: for each, the part of the state that it needs, the objections to it, and its subject, reply and effect.
 use Rattle.std.specs.Prelude.{ℕ, ◌+◌, Bool, not, ◌&&◌, ◌==◌, nat_le, if◌then◌else◌, List, [], ◌∷◌, ◌++◌, codes, Option, Some, None, is_some, is_none}
 use Rattle.std.specs.Fmt.{decimal}
 use Rattle.register.specs.declared.phase.Phase.TheVariants.{Keying}
@@ -13,7 +13,7 @@ use Rattle.register.specs.Agreement.{is_its_clerk, keyings_now, differ}
 use Rattle.register.specs.Effects.{EffectEntry, batch_added, batch_reopened, third_set}
 use Rattle.register.specs.CommandInputs.{CommandInputEntries, empty_input, is_in_phase, batch_objections, passes}
 
--- ---- the part of the state that belongs to a batch, if there is one
+-- ---- the part of the state that belongs to a batch, if the batch exists
 
 abbrev pub ward_for : OfficeState → Option BatchEntry → Option WardEntry
 ward_for s None = None
@@ -71,12 +71,12 @@ objections actor (Again batch) part =
     objection (not (is_in_range actor (Again batch) part)) NumberOutOfRange ∷ batch_objections part ++ (objection (not (differ part.keyings)) NoDifference ∷ [])
 objections actor (Third batch clerk) part = objection (not (is_in_range actor (Third batch clerk) part)) NumberOutOfRange ∷ third_objections clerk part
 
--- the round after the current one, capped at the last round
+-- the round after the current one, but at most the last round
 abbrev pub next_round : Option BatchEntry → ℕ
 next_round None = 1
 next_round (Some b) = if is_in_last_round b then b.round else b.round + 1
 
--- the subject of the receipt, which identifies a command when it is repeated under the same id
+-- the subject of the receipt, which identifies a command that is repeated with the same id
 unfoldable pub subject_of : BatchCommand → List ℕ
 subject_of (Add batch ward size first_clerk second_clerk) = codes "batch " ++ decimal batch
 subject_of (Again batch) = codes "again " ++ decimal batch
@@ -88,7 +88,7 @@ reply_to (Add batch ward size first_clerk second_clerk) part = codes "batch " ++
 reply_to (Again batch) part = codes "batch " ++ (decimal batch ++ (codes " round " ++ (decimal (next_round part.batch) ++ codes " open")))
 reply_to (Third batch clerk) part = codes "batch " ++ (decimal batch ++ (codes " third clerk " ++ decimal clerk))
 
--- the effect of an accepted command; a new batch is in its first round
+-- the effect of an accepted command; a new batch starts in its first round
 abbrev pub effect_of : BatchCommand → CommandInputEntries → EffectEntry
 effect_of (Add batch ward size first_clerk second_clerk) part =
     batch_added (record { number = batch; ward = ward; size = size; first_clerk = first_clerk; second_clerk = second_clerk; round = 1 })

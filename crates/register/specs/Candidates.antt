@@ -1,4 +1,4 @@
--- The commands for candidates: for each, the part of the state that it needs, the objections to it, and its subject, reply and effect.
+-- Candidate commands: for each, the part of the state that it needs, the objections to it, and its subject, reply and effect.
 use Rattle.std.specs.Prelude.{ℕ, Bool, not, ◌&&◌, List, [], ◌∷◌, ◌++◌, codes, string_bytes, Option, is_some, is_none}
 use Rattle.std.specs.Fmt.{decimal}
 use Rattle.register.specs.declared.phase.Phase.TheVariants.{Nominations}
@@ -34,7 +34,7 @@ objections actor (Withdraw ward candidate) part =
     ∷ phase_objections Nominations part.ward
     ++ (objection (is_none part.candidate) NoSuchCandidate ∷ [])
 
--- the subject of the receipt, which identifies a command when it is repeated under the same id
+-- the subject of the receipt, which identifies a command that is repeated with the same id
 unfoldable pub subject_of : CandidateCommand → List ℕ
 subject_of (Add ward candidate name) = codes "candidate " ++ (decimal ward ++ (codes " " ++ decimal candidate))
 subject_of (Withdraw ward candidate) = codes "withdraw " ++ (decimal ward ++ (codes " " ++ decimal candidate))

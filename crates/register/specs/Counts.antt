@@ -1,4 +1,4 @@
--- The commands for a ward's count: for each, the part of the state that it needs, the objections to it, and its subject, reply and effect.
+-- Count commands: for each, the part of the state that it needs, the objections to it, and its subject, reply and effect.
 use Rattle.std.specs.Prelude.{ℕ, ◌+◌, Bool, false, not, ◌&&◌, ◌==◌, nat_le, if◌then◌else◌, List, [], ◌∷◌, ◌++◌, codes, Option, Some, None, is_none, option_map}
 use Rattle.std.specs.Fmt.{decimal}
 use Rattle.votes.specs.Text.{votes_text}
@@ -20,13 +20,13 @@ use Rattle.register.specs.Elections.{election_of, due_of, elected_of, has_finish
 use Rattle.register.specs.Effects.{EffectEntry, ward_moved, stage_counted, lot_drawn}
 use Rattle.register.specs.CommandInputs.{CommandInputEntries, empty_input, phase_objections}
 
--- ---- the part of the state that belongs to a ward, if there is one
+-- ---- the part of the state that belongs to a ward, if the ward exists
 
--- the poll of its papers
+-- the poll of the ward
 abbrev pub poll_for : OfficeState → Option WardEntry → Option PollEntry
 poll_for s ward = option_map (λ (w : WardEntry). poll_of w.seats (election_of s w).ballots) ward
 
--- what is due in its count
+-- what is due in the ward's count
 abbrev pub due_for : OfficeState → Option WardEntry → Option Due
 due_for s ward = option_map (λ (w : WardEntry). due_of (election_of s w)) ward
 
@@ -57,14 +57,14 @@ abbrev pub is_ready : Option PollEntry → Bool
 is_ready None = false
 is_ready (Some poll) = poll.settled
 
--- the objection while the count is waiting for a lot, with the stage that the lot is for and the candidates tied
+-- the objection if the count is waiting for a lot, with the stage that needs the lot and the candidates tied
 abbrev pub lot_objection : Option Due → Option Reason
 lot_objection (Some (lot_due stage kind tied)) = Some (LotNeeded stage tied)
 lot_objection (Some (Act action)) = None
 lot_objection (Some Finished) = None
 lot_objection None = None
 
--- the count is waiting for a lot at this stage
+-- the count is waiting for a lot at the given stage
 abbrev pub waits_at : ℕ → Option Due → Bool
 waits_at stage (Some (lot_due k kind tied)) = k == stage
 waits_at stage (Some (Act action)) = false
@@ -78,7 +78,7 @@ phase_for (Advance ward) = Sealed
 phase_for (Lot ward stage candidate) = Sealed
 phase_for (Declare ward) = Sealed
 
--- the objections to each command, apart from those to its numbers and its ward
+-- the objections to each command, other than those to its numbers and its ward
 abbrev pub own_objections : CountCommand → CommandInputEntries → List (Option Reason)
 own_objections (Seal ward) part = objection (not (is_ready part.poll)) NotReady ∷ []
 own_objections (Advance ward) part = objection (has_finished part.due) CountFinished ∷ lot_objection part.due ∷ []
@@ -91,28 +91,28 @@ abbrev pub objections : ℕ → CountCommand → CommandInputEntries → List (O
 objections actor command part =
     objection (not (is_in_range actor command)) NumberOutOfRange ∷ phase_objections (phase_for command) part.ward ++ own_objections command part
 
--- the subject of the receipt, which identifies a command when it is repeated under the same id
+-- the subject of the receipt, which identifies a command that is repeated with the same id
 unfoldable pub subject_of : CountCommand → List ℕ
 subject_of (Seal ward) = codes "seal " ++ decimal ward
 subject_of (Advance ward) = codes "advance " ++ decimal ward
 subject_of (Lot ward stage candidate) = codes "lot " ++ (decimal ward ++ (codes " " ++ decimal stage))
 subject_of (Declare ward) = codes "declare " ++ decimal ward
 
--- the number of the stage after this many stages, capped at the last stage that a count can have
+-- the number of the next stage after the given number of stages, but at most the last stage that a count can have
 abbrev pub stage_after : ℕ → ℕ
 stage_after done = if nat_le last_lot_stage done then done else done + 1
 
--- the number of the stage after those done in a ward
+-- the number of the stage that follows the completed stages of a ward
 abbrev pub next_stage : Option WardEntry → ℕ
 next_stage None = 1
 next_stage (Some w) = stage_after w.done
 
--- the part of a reply that states the poll: the number of valid papers, the number of rejected ones, and the quota
+-- the part of a reply that reports the poll: the number of valid papers, the number of rejected papers, and the quota
 abbrev pub poll_told : Option PollEntry → List ℕ
 poll_told None = []
 poll_told (Some poll) = codes " sealed: " ++ (decimal poll.valid ++ (codes " valid, " ++ (decimal (all_rejected poll.rejected) ++ (codes " rejected, quota " ++ votes_text poll.quota))))
 
--- the part of a reply that states the next action
+-- the part of a reply that reports the next action
 abbrev pub action_told : Option Due → List ℕ
 action_told None = []
 action_told (Some (Act action)) = action_text action

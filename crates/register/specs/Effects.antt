@@ -9,9 +9,9 @@ use Rattle.register.specs.Offices.{WardEntry, CandidateEntry, BatchEntry, ThirdE
 use Rattle.register.specs.Offices.{candidate_cmp, batch_cmp, third_cmp, keyed_cmp, judged_cmp, lot_cmp, receipt_cmp, ward_compared, candidate_compared, batch_compared, ward_entry}
 use Rattle.register.specs.Offices.{candidate_entry, batch_entry, third_entry, keyed_entry, judged_entry, lot_entry, receipt_entry}
 
--- What a command does to the state, apart from its receipt. A ward is added or enters a phase; a candidate is added or withdrawn; a batch is added,
--- reopened in another round, or assigned to a third clerk. Papers are keyed; a paper is judged; the number of stages done in a ward's count is set; or a
--- lot is drawn.
+-- What a command does to the state, apart from its receipt. A ward is added or enters another phase; a candidate is added or withdrawn; a batch is
+-- added, reopened for another round, or assigned to a third clerk. Papers are keyed; a paper is judged; the number of completed stages in a ward's
+-- count is set; or a lot is drawn.
 pub data EffectEntry : Type 0 where
   ward_added : WardEntry → EffectEntry
   ward_moved : ℕ → Phase → EffectEntry
@@ -30,15 +30,15 @@ pub record ChangeEntry : Type 0 where
   pub effect : EffectEntry
   pub receipt : ReceiptEntry
 
--- a ward, moved to this phase
+-- a ward, moved to the given phase
 abbrev pub in_phase : Phase → WardEntry → WardEntry
 in_phase phase w = record w { phase = phase }
 
--- a ward, with this number of stages done
+-- a ward, with the given number of completed stages
 abbrev pub at_stage : ℕ → WardEntry → WardEntry
 at_stage done w = record w { done = done }
 
--- a batch, moved to this round
+-- a batch, moved to the given round
 abbrev pub in_round : ℕ → BatchEntry → BatchEntry
 in_round round b = record b { round = round }
 
@@ -56,7 +56,7 @@ with_effect (paper_judged v) s = record s { verdicts = put judged_cmp v s.verdic
 with_effect (stage_counted ward done) s = record s { wards = changed (ward_compared ward) (at_stage done) s.wards }
 with_effect (lot_drawn l) s = record s { lots = put lot_cmp l s.lots }
 
--- the state with another receipt
+-- the state with a receipt added
 abbrev pub with_receipt : ReceiptEntry → OfficeState → OfficeState
 with_receipt r s = record s { receipts = put receipt_cmp r s.receipts }
 
@@ -64,7 +64,7 @@ with_receipt r s = record s { receipts = put receipt_cmp r s.receipts }
 abbrev pub with_change : ChangeEntry → OfficeState → OfficeState
 with_change change s = with_receipt change.receipt (with_effect change.effect s)
 
--- the entry of an effect
+-- the entry for an effect
 abbrev pub effect_entry : Effect → EffectEntry
 effect_entry (WardAdded w) = ward_added (ward_entry w)
 effect_entry (WardMoved ward phase) = ward_moved ward phase
@@ -78,6 +78,6 @@ effect_entry (PaperJudged v) = paper_judged (judged_entry v)
 effect_entry (StageCounted ward done) = stage_counted ward done
 effect_entry (LotDrawn l) = lot_drawn (lot_entry l)
 
--- the entry of a change
+-- the entry for a change
 abbrev pub change_entry : Change → ChangeEntry
 change_entry change = record { effect = effect_entry change.effect; receipt = receipt_entry change.receipt }

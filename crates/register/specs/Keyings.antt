@@ -1,4 +1,4 @@
--- The command that clerks send: the part of the state that it needs, the objections to it, and its subject, reply and effect.
+-- The clerks' only command: the part of the state that it needs, the objections to it, and its subject, reply and effect.
 use Rattle.std.specs.Prelude.{ℕ, ◌+◌, ◌^◌, ◌<◌, Bool, not, ◌&&◌, ◌==◌, List, [], ◌∷◌, ◌++◌, length, map, codes, string_bytes, Option}
 use Rattle.std.specs.Fmt.{decimal}
 use Rattle.register.specs.declared.refusal.Reason.{Reason}
@@ -17,11 +17,11 @@ use Rattle.register.specs.CommandInputs.{CommandInputEntries, empty_input, batch
 abbrev pub texts_of : KeyingCommand → List (List ℕ)
 texts_of command = map string_bytes command.papers.items
 
--- there are few enough papers to number them in 32 bits, which is always so if there is no objection to the command
+-- there are few enough papers to number them in 32 bits, as is always the case if there is no objection to the command
 abbrev pub IsNumbered : KeyingCommand → Type 0
 IsNumbered command = length command.papers.items < 2 ^ 32
 
--- the part of the state that the command needs; of the keyings, only the actor's own
+-- the part of the state that the command needs; the only keyings it includes are the actor's own
 abbrev pub part_of : OfficeState → ℕ → KeyingCommand → CommandInputEntries
 part_of s actor command =
     record empty_input {
@@ -50,15 +50,15 @@ objections actor command part =
     ∷ []
     )
 
--- the subject of the receipt, which identifies a command when it is repeated under the same id
+-- the subject of the receipt, which identifies a command that is repeated with the same id
 unfoldable pub subject_of : KeyingCommand → List ℕ
 subject_of command = codes "key " ++ (decimal command.batch ++ (codes " " ++ decimal command.round))
 
--- The reply to an accepted command depends on the command alone, so no clerk learns anything about another's keying.
+-- The reply to an accepted command depends only on the command, so no clerk learns anything about another clerk's keying.
 unfoldable pub reply_to : KeyingCommand → List ℕ
 reply_to command = codes "batch " ++ (decimal command.batch ++ (codes " round " ++ (decimal command.round ++ codes " keyed")))
 
--- the papers that a clerk keyed from a batch in a round, numbered from this number
+-- the papers that a clerk keyed for a batch in the given round, numbered from the given number
 unfoldable pub papers_from : ℕ → ℕ → ℕ → ℕ → List (List ℕ) → List KeyedEntry
 papers_from batch round clerk paper [] = []
 papers_from batch round clerk paper (marks ∷ others) = record { batch = batch; round = round; clerk = clerk; paper = paper; marks = marks } ∷ papers_from batch round clerk (paper + 1) others

@@ -10,16 +10,16 @@ use Rattle.register.specs.Elections.{election_of, due_of}
 use Rattle.register.specs.Status.{StatusEntry, status_of, status_entry}
 use Rattle.register.specs.Counts.{stage_after}
 
--- The next step in a ward. During nominations: to close them; there are this many candidates so far, for this many seats. During keying: the remaining
--- work on the papers, with this status. During the count: what is due, with the number of the stage and the ward's candidates. Once the ward is declared:
--- nothing.
+-- The next step in a ward. During nominations: closing them, with the number of candidates so far and the number of seats. During keying: the remaining
+-- work on the papers, with the given status. During the count: what is due, with the number of the stage and the ward's candidates. Once the ward is
+-- declared: nothing.
 pub data NextStepEntry : Type 0 where
   nominations_end : ℕ → ℕ → NextStepEntry
   papers_stand : StatusEntry → NextStepEntry
   count_goes : ℕ → Due → List CandidateEntry → NextStepEntry
   nothing_comes : NextStepEntry
 
--- the next step in a ward of a state, depending on its phase
+-- the next step in a ward of the given state, depending on the ward's phase
 abbrev pub next_in : Phase → OfficeState → WardEntry → NextStepEntry
 next_in Nominations s w = nominations_end (length (candidates_of s w.number)) w.seats
 next_in Keying s w = papers_stand (status_of s w)
@@ -29,11 +29,11 @@ next_in Declared s w = nothing_comes
 abbrev pub next_of : OfficeState → WardEntry → NextStepEntry
 next_of s w = next_in w.phase s w
 
--- the same for the ward with this number, if there is one
+-- the next step in the ward with the given number, if there is one
 abbrev pub next_at : OfficeState → ℕ → Option NextStepEntry
 next_at s ward = option_map (next_of s) (ward_at s ward)
 
--- the entry of a step
+-- the entry for a step
 abbrev pub step_entry : NextStep → NextStepEntry
 step_entry (step.Nominations candidates seats) = nominations_end candidates seats
 step_entry (step.Papers status) = papers_stand (status_entry status)

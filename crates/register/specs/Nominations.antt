@@ -12,7 +12,7 @@ is_contested w candidates = nat_lt w.seats (length candidates)
 abbrev pub is_stood_in : List CandidateEntry → Bool
 is_stood_in candidates = not (length candidates == 0)
 
--- what each phase requires of a ward's candidates: more candidates than seats during keying, at least one candidate once the
+-- which candidates each phase requires of a ward: more candidates than seats during keying, at least one candidate once the
 -- ward is sealed
 abbrev pub are_enough : Phase → WardEntry → List CandidateEntry → Bool
 are_enough Nominations w candidates = true

@@ -17,7 +17,7 @@ use Rattle.register.specs.declared.receipt.Receipt.{Receipt}
 
 -- ---- entries
 
--- a ward: its number, its number of seats, the phase of its election, the number of stages done in its count, and its name
+-- a ward: its number, its number of seats, the phase of its election, the number of completed stages in its count, and its name
 pub record WardEntry : Type 0 where
   pub number : ℕ
   pub seats : ℕ
@@ -25,7 +25,7 @@ pub record WardEntry : Type 0 where
   pub done : ℕ
   pub name : List ℕ
 
--- a candidate: the ward, the candidate's number in the ward, and the name
+-- a candidate: the ward, the candidate's number in that ward, and the name
 pub record CandidateEntry : Type 0 where
   pub ward : ℕ
   pub number : ℕ
@@ -45,7 +45,7 @@ pub record ThirdEntry : Type 0 where
   pub batch : ℕ
   pub clerk : ℕ
 
--- a ballot paper as keyed by a clerk: its batch, the round, the clerk, its number in the batch, and its marks text
+-- a ballot paper as keyed by a clerk: its batch, the round, the clerk, its number within the batch, and its marks text
 pub record KeyedEntry : Type 0 where
   pub batch : ℕ
   pub round : ℕ
@@ -53,8 +53,8 @@ pub record KeyedEntry : Type 0 where
   pub paper : ℕ
   pub marks : List ℕ
 
--- a doubtful ballot paper as judged by the returning officer: its batch, its number in the batch, and either 0 with the marks that it is accepted with, or
--- its rejection code
+-- a doubtful ballot paper as judged by the returning officer: its batch, its number within the batch, and either 0 with the marks with which it is accepted,
+-- or its rejection code
 pub record JudgedEntry : Type 0 where
   pub batch : ℕ
   pub paper : ℕ
@@ -67,65 +67,65 @@ pub record LotEntry : Type 0 where
   pub stage : ℕ
   pub candidate : ℕ
 
--- the record of an accepted request: its actor, its id, its subject, and the reply
+-- the record of an accepted request: the actor, the id, the subject, and the reply
 pub record ReceiptEntry : Type 0 where
   pub actor : ℕ
   pub id : List ℕ
   pub subject : List ℕ
   pub reply : List ℕ
 
--- the entry of a ward
+-- the entry for a ward
 abbrev pub ward_entry : Ward → WardEntry
 ward_entry w = record { number = w.number; seats = w.seats; phase = w.phase; done = w.done; name = string_bytes w.name }
 
--- the entry of a candidate
+-- the entry for a candidate
 abbrev pub candidate_entry : Candidate → CandidateEntry
 candidate_entry c = record { ward = c.ward; number = c.number; name = string_bytes c.name }
 
--- the entry of a batch
+-- the entry for a batch
 abbrev pub batch_entry : Batch → BatchEntry
 batch_entry b = record { number = b.number; ward = b.ward; size = b.size; first_clerk = b.first_clerk; second_clerk = b.second_clerk; round = b.round }
 
--- the entry of a third clerk
+-- the entry for a third clerk
 abbrev pub third_entry : ThirdClerk → ThirdEntry
 third_entry t = record { batch = t.batch; clerk = t.clerk }
 
--- the entry of a keyed paper
+-- the entry for a keyed paper
 abbrev pub keyed_entry : KeyedPaper → KeyedEntry
 keyed_entry k = record { batch = k.batch; round = k.round; clerk = k.clerk; paper = k.paper; marks = string_bytes k.marks }
 
--- the entry of a judged paper
+-- the entry for a judged paper
 abbrev pub judged_entry : JudgedPaper → JudgedEntry
 judged_entry v = record { batch = v.batch; paper = v.paper; code = v.code; marks = string_bytes v.marks }
 
--- the entry of a lot
+-- the entry for a lot
 abbrev pub lot_entry : DrawnLot → LotEntry
 lot_entry l = record { ward = l.ward; stage = l.stage; candidate = l.candidate }
 
--- the entry of a receipt
+-- the entry for a receipt
 abbrev pub receipt_entry : Receipt → ReceiptEntry
 receipt_entry r = record { actor = r.actor; id = string_bytes r.id; subject = string_bytes r.subject; reply = string_bytes r.reply }
 
 -- ---- maps of entries of any type
 
--- an entry inserted into others, in key order
+-- the entries with another entry inserted in key order
 abbrev pub put : {X : Type 0} → (X → X → Ordering) → X → List X → List X
 put cmp x [] = x ∷ []
 put cmp x (y ∷ ys) = if is_lt (cmp x y) then x ∷ y ∷ ys else y ∷ put cmp x ys
 
--- entries inserted into others, one after another
+-- the entries with other entries inserted, one after another
 abbrev pub put_each : {X : Type 0} → (X → X → Ordering) → List X → List X → List X
 put_each cmp xs ys = fold (λ zs x. put cmp x zs) ys xs
 
--- the entry whose key compares as equal
+-- the entry whose key matches
 abbrev pub entry_at : {X : Type 0} → (X → Ordering) → List X → Option X
 entry_at compared xs = find (λ x. is_eq (compared x)) xs
 
--- the entries without the one whose key compares as equal
+-- the entries without the one whose key matches
 abbrev pub without : {X : Type 0} → (X → Ordering) → List X → List X
 without compared xs = filter (λ x. not (is_eq (compared x))) xs
 
--- the entries, with a change made to the one whose key compares as equal
+-- the entries, with a change applied to the one whose key matches
 abbrev pub changed : {X : Type 0} → (X → Ordering) → (X → X) → List X → List X
 changed compared change xs = map (λ x. if is_eq (compared x) then change x else x) xs
 
@@ -143,7 +143,7 @@ pub record OfficeState : Type 0 where
   pub lots : List LotEntry
   pub receipts : List ReceiptEntry
 
--- the state of the office before any request
+-- the state of an office before any request
 abbrev pub empty_office : OfficeState
 empty_office = record { wards = []; candidates = []; batches = []; thirds = []; keyings = []; verdicts = []; lots = []; receipts = [] }
 
@@ -181,19 +181,19 @@ lot_cmp = then_cmp (on (λ (l : LotEntry). l.ward) nat_cmp) (on (λ (l : LotEntr
 abbrev pub receipt_cmp : ReceiptEntry → ReceiptEntry → Ordering
 receipt_cmp = then_cmp (on (λ (r : ReceiptEntry). r.actor) nat_cmp) (on (λ (r : ReceiptEntry). r.id) (slice_cmp nat_cmp))
 
--- compares a number with that of a ward
+-- compares a number with a ward's number
 abbrev pub ward_compared : ℕ → WardEntry → Ordering
 ward_compared number w = nat_cmp number w.number
 
--- the ward with this number
+-- the ward with the given number
 abbrev pub ward_at : OfficeState → ℕ → Option WardEntry
 ward_at s number = entry_at (ward_compared number) s.wards
 
--- compares a ward and a number with those of a candidate
+-- compares a ward and a candidate number with a candidate's
 abbrev pub candidate_compared : ℕ → ℕ → CandidateEntry → Ordering
 candidate_compared ward number c = ordering_then (nat_cmp ward c.ward) (nat_cmp number c.number)
 
--- the candidate with this number in this ward
+-- the candidate with the given number in the given ward
 abbrev pub candidate_at : OfficeState → ℕ → ℕ → Option CandidateEntry
 candidate_at s ward number = entry_at (candidate_compared ward number) s.candidates
 
@@ -201,31 +201,31 @@ candidate_at s ward number = entry_at (candidate_compared ward number) s.candida
 abbrev pub candidates_of : OfficeState → ℕ → List CandidateEntry
 candidates_of s ward = filter (λ (c : CandidateEntry). c.ward == ward) s.candidates
 
--- compares a number with that of a batch
+-- compares a number with a batch's number
 abbrev pub batch_compared : ℕ → BatchEntry → Ordering
 batch_compared number b = nat_cmp number b.number
 
--- the batch with this number
+-- the batch with the given number
 abbrev pub batch_at : OfficeState → ℕ → Option BatchEntry
 batch_at s number = entry_at (batch_compared number) s.batches
 
--- compares a batch number with that of a third clerk's batch
+-- compares a number with that of the batch to which a third clerk is assigned
 abbrev pub third_compared : ℕ → ThirdEntry → Ordering
 third_compared batch t = nat_cmp batch t.batch
 
--- the third clerk of this batch, if one is assigned
+-- the third clerk of the given batch, if one is assigned
 abbrev pub third_at : OfficeState → ℕ → Option ThirdEntry
 third_at s batch = entry_at (third_compared batch) s.thirds
 
--- a clerk's keying of a batch in a round: the papers, in order
+-- the given clerk's keying of a batch in the given round: the papers, in order
 abbrev pub keying_of : OfficeState → ℕ → ℕ → ℕ → List KeyedEntry
 keying_of s batch round clerk = filter (λ (k : KeyedEntry). (k.batch == batch) && ((k.round == round) && (k.clerk == clerk))) s.keyings
 
--- compares a batch and a number with those of a judged paper
+-- compares a batch and a paper number with a judged paper's
 abbrev pub judged_compared : ℕ → ℕ → JudgedEntry → Ordering
 judged_compared batch paper v = ordering_then (nat_cmp batch v.batch) (nat_cmp paper v.paper)
 
--- the verdict on the paper with this number in this batch
+-- the verdict on the paper with the given number in the given batch
 abbrev pub verdict_at : OfficeState → ℕ → ℕ → Option JudgedEntry
 verdict_at s batch paper = entry_at (judged_compared batch paper) s.verdicts
 
@@ -237,7 +237,7 @@ verdicts_of s batch = filter (λ (v : JudgedEntry). v.batch == batch) s.verdicts
 abbrev pub lots_of : OfficeState → ℕ → List LotEntry
 lots_of s ward = filter (λ (l : LotEntry). l.ward == ward) s.lots
 
--- the receipt of this actor and id
+-- the receipt for the given actor and id
 abbrev pub receipt_at : OfficeState → ℕ → List ℕ → Option ReceiptEntry
 receipt_at s actor id = entry_at (λ r. ordering_then (nat_cmp actor r.actor) (slice_cmp nat_cmp id r.id)) s.receipts
 

@@ -40,23 +40,23 @@ is_settled pile = are_taken pile.keyings && (length (filter (is_open pile.verdic
 
 -- ---- the judgement on a paper
 
--- by its marks a paper is valid, with its preferences, if the number 1 appears next to exactly one candidate; otherwise it is rejected
+-- judged by its marks, a paper is valid, with its preferences, if the number 1 appears next to exactly one candidate; otherwise it is rejected
 abbrev pub by_rejection : Marking → Option Rejection → Judgement
 by_rejection marking None = Valid (preferences marking)
 by_rejection marking (Some rejection) = Rejected (rejection_code rejection)
 
--- the judgement on marks that were read; if the paper is doubtful, this other judgement
+-- the judgement on marks that were read; for a doubtful paper, the given judgement instead
 abbrev pub by_reading : Judgement → Result Keyed MarkFault → Judgement
 by_reading doubtful (Err fault) = Open
 by_reading doubtful (Ok Doubtful) = doubtful
 by_reading doubtful (Ok (Marked marking)) = by_rejection marking (rejection_of marking)
 
--- the judgement by a verdict: that of the marks that the paper is accepted with, or a rejection with a code
+-- the judgement according to a verdict: the judgement on the marks with which the paper is accepted, or a rejection with a code
 abbrev pub by_verdict : List ℕ → Option JudgedEntry → Judgement
 by_verdict columns None = Open
 by_verdict columns (Some v) = if v.code == 0 then by_reading Open (reading columns v.marks) else Rejected v.code
 
--- the judgement on a keyed paper: by its marks or, if it is doubtful, by its verdict
+-- the judgement on a keyed paper: according to its marks or, if it is doubtful, according to its verdict
 abbrev pub judgement_on : List ℕ → List JudgedEntry → KeyedEntry → Judgement
 judgement_on columns verdicts k = by_reading (by_verdict columns (find (λ (v : JudgedEntry). v.paper == k.paper) verdicts)) (reading columns k.marks)
 
@@ -74,12 +74,12 @@ judgements columns piles = flat_map (judgements_in columns) piles
 
 -- ---- settled batches, whose papers are read one by one
 
--- the lower-numbered of a batch's two clerks
+-- the lower-numbered of the two clerks first assigned to a batch
 abbrev pub lower_clerk : BatchEntry → ℕ
 lower_clerk b = if is_lt (nat_cmp b.first_clerk b.second_clerk) then b.first_clerk else b.second_clerk
 
--- the papers of a settled batch: without a third clerk, those of the lower-numbered clerk, since the two keyings are equal; with a third clerk, the
--- agreed papers
+-- the papers of a settled batch: without a third clerk, those keyed by the lower-numbered clerk, since the two keyings are equal; with a third clerk,
+-- the agreed papers
 abbrev pub settled_with : OfficeState → BatchEntry → Option ThirdEntry → List KeyedEntry
 settled_with s b None = keying_of s b.number b.round (lower_clerk b)
 settled_with s b (Some t) = taken_papers s b
@@ -99,13 +99,13 @@ preferences_by (Valid prefs) = prefs ∷ []
 preferences_by (Rejected code) = []
 preferences_by Open = []
 
--- a paper rejected with this code
+-- a paper is rejected with the given code
 abbrev pub is_rejected : ℕ → Judgement → Bool
 is_rejected n (Valid prefs) = false
 is_rejected n (Rejected code) = code == n
 is_rejected n Open = false
 
--- the number of papers rejected with a code
+-- the number of papers rejected with the given code
 abbrev pub rejected_with : List Judgement → ℕ → ℕ
 rejected_with js n = length (filter (is_rejected n) js)
 
@@ -116,7 +116,7 @@ pub record BallotsEntry : Type 0 where
   pub rejected : List ℕ
   pub settled : Bool
 
--- the ballots in some piles
+-- the ballots in the given piles
 abbrev pub ballots_in : List ℕ → List Pile → BallotsEntry
 ballots_in columns piles =
     let js = judgements columns piles in
@@ -126,7 +126,7 @@ ballots_in columns piles =
       settled = list_all is_settled piles;
     }
 
--- the ballots that result from some judgements if every batch is settled
+-- the ballots that result from the given judgements if every batch is settled
 abbrev pub ballots_by : List Judgement → BallotsEntry
 ballots_by js =
     record {
@@ -142,28 +142,28 @@ pub record PollEntry : Type 0 where
   pub quota : ℕ
   pub settled : Bool
 
--- the poll of some ballots, for a number of seats
+-- the poll that results from the given ballots, for the given number of seats
 abbrev pub poll_of : ℕ → BallotsEntry → PollEntry
 poll_of seats ballots = record { valid = length ballots.papers; rejected = ballots.rejected; quota = quota_of (length ballots.papers) seats; settled = ballots.settled }
 
--- the number of papers rejected, with any of the five codes
+-- the total number of papers rejected, with any of the five codes
 abbrev pub all_rejected : List ℕ → ℕ
 all_rejected rejected = slice_index rejected 0 + (slice_index rejected 1 + (slice_index rejected 2 + (slice_index rejected 3 + slice_index rejected 4)))
 
--- a list contains these papers, each separately
+-- a list consists of the given papers, each stored separately
 abbrev pub are_listed : Vec (List ℕ) → List (List ℕ) → Type 0
 are_listed kept papers = kept.items ≡ papers
 
--- bundles contain these papers, which were added in this order
+-- the bundles contain the given papers, added in the given order
 abbrev pub are_bundled : List Bundle → List (List ℕ) → Type 0
 are_bundled bundles papers = bundles ≡ bundled papers
 
--- ballots represent this entry: they have its papers, as defined by `holds`, and the same totals
+-- ballots represent the given entry: they have its papers, as defined by `holds`, and the same totals
 pub record StandFor {P : Type 0} (holds : P → List (List ℕ) → Type 0) (ballots : Ballots P) (entry : BallotsEntry) : Type 0 where
   pub papers_held : holds ballots.papers entry.papers
   pub rejected_are : ballots.rejected ≡ entry.rejected
   pub settled_is : ballots.settled ≡ entry.settled
 
--- the entry of a poll
+-- the entry for a poll
 abbrev pub poll_entry : PollTally → PollEntry
 poll_entry poll = record { valid = poll.valid; rejected = poll.rejected; quota = poll.quota; settled = poll.settled }

@@ -5,7 +5,7 @@ use Rattle.std.specs.Str.{is_utf8}
 use Rattle.votes.specs.Units.{max_seats}
 use Rattle.paper.specs.Columns.{max_candidates}
 
--- within a range, both ends included
+-- within a range, including both ends
 abbrev pub is_between : ℕ → ℕ → ℕ → Bool
 is_between low high n = nat_le low n && nat_le n high
 
@@ -90,7 +90,7 @@ is_name t = is_utf8 t && (is_between 1 120 (length t) && list_all is_name_byte t
 abbrev pub is_id_byte : ℕ → Bool
 is_id_byte b = is_between 97 122 b || (is_between 48 57 b || (b == 45))
 
--- an id: 1 to 40 such characters
+-- an id: 1 to 40 characters, each a letter from a to z, a digit or a hyphen
 unfoldable pub is_id : List ℕ → Bool
 is_id t = is_between 1 40 (length t) && list_all is_id_byte t
 

@@ -1,4 +1,4 @@
--- The reasons for refusing requests, by number and text.
+-- The reasons for refusing requests: their numbers and texts.
 use Rattle.std.specs.Prelude.{ℕ, Bool, if◌then◌else◌, List, [], ◌∷◌, ◌++◌, codes, Option, Some, None}
 use Rattle.std.specs.Fmt.{decimal}
 use Rattle.register.specs.Texts.{listed}
@@ -41,7 +41,7 @@ reason_number NotAmong = 28
 reason_number CountNotFinished = 29
 reason_number ThirdSet = 30
 
--- the text of a reason, up to any numbers that it includes
+-- the text of a reason, up to the numbers that it includes, if any
 abbrev pub reason_words : Reason → List ℕ
 reason_words BadId = codes "bad id"
 reason_words IdUsed = codes "id used for another subject"
@@ -84,7 +84,7 @@ reason_numbers _ = []
 abbrev pub reason_text : Reason → List ℕ
 reason_text why = reason_words why ++ reason_numbers why
 
--- an objection: this reason, if a condition is met
+-- an objection: the given reason, if a condition is met
 abbrev pub objection : Bool → Reason → Option Reason
 objection met why = if met then Some why else None
 

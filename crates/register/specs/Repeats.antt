@@ -1,5 +1,5 @@
--- Whether a request differs from what an office has stored about an earlier one. A receipt contains the request's id and subject and none of its
--- other contents, so a request that is repeated under the same id may have different contents and still get the same reply.
+-- Whether a repeated request differs from what an office has stored about the original. A receipt contains only the request's id and subject, so a
+-- request that is repeated with the same id may have different contents and still get the same reply.
 use Rattle.std.specs.Prelude.{ℕ, Bool, true, false, not, ◌&&◌, ◌==◌, List, [], ◌∷◌, string_bytes, Option, Some, None}
 use Rattle.std.specs.List.{list_any, filter}
 use Rattle.std.specs.Str.{bytes_eq}
@@ -30,37 +30,37 @@ abbrev pub is_there : {X : Type 0} → (X → Bool) → Option X → Bool
 is_there test None = false
 is_there test (Some x) = test x
 
--- a ward with this number of seats and this name
+-- a ward has the given number of seats and the given name
 abbrev pub is_ward_of : ℕ → List ℕ → WardEntry → Bool
 is_ward_of seats name w = (w.seats == seats) && bytes_eq w.name name
 
--- a candidate with a different name
+-- a candidate has a different name
 abbrev pub has_other_name : List ℕ → CandidateEntry → Bool
 has_other_name name c = not (bytes_eq c.name name)
 
--- a receipt with this subject
+-- a receipt has the given subject
 abbrev pub has_subject : List ℕ → ReceiptEntry → Bool
 has_subject subject r = bytes_eq r.subject subject
 
--- the receipts of the returning officer, who alone can add and withdraw candidates
+-- the receipts of the returning officer, who alone may add and withdraw candidates
 abbrev pub office_receipts : OfficeState → List ReceiptEntry
 office_receipts s = filter (λ (r : ReceiptEntry). r.actor == 0) s.receipts
 
--- a batch of this ward and size, assigned to these two clerks
+-- a batch belongs to the given ward, has the given size, and is assigned to the two given clerks
 abbrev pub is_batch_of : ℕ → ℕ → ℕ → ℕ → BatchEntry → Bool
 is_batch_of ward size first_clerk second_clerk b = (b.ward == ward) && ((b.size == size) && ((b.first_clerk == first_clerk) && (b.second_clerk == second_clerk)))
 
--- a keying with exactly these marks texts, one per paper, in order
+-- a keying consists of exactly the given marks texts, one per paper, in order
 unfoldable pub has_texts : List KeyedEntry → List (List ℕ) → Bool
 has_texts [] [] = true
 has_texts (k ∷ ks) (text ∷ texts) = bytes_eq k.marks text && has_texts ks texts
 has_texts ks texts = false
 
--- a verdict with the same code and marks as another
+-- a verdict has the same code and marks as another
 abbrev pub is_judged_alike : JudgedEntry → JudgedEntry → Bool
 is_judged_alike other v = (v.code == other.code) && bytes_eq v.marks other.marks
 
--- a lot for this stage that names this candidate
+-- a lot is for the given stage and names the given candidate
 abbrev pub is_drawn : ℕ → ℕ → LotEntry → Bool
 is_drawn stage candidate l = (l.stage == stage) && (l.candidate == candidate)
 
@@ -71,12 +71,12 @@ abbrev pub is_ward_otherwise : OfficeState → WardCommand → Bool
 is_ward_otherwise s (wards.Add ward seats name) = not (is_there (is_ward_of seats (string_bytes name)) (ward_at s ward))
 is_ward_otherwise s (wards.Close ward) = false
 
--- a candidate with this number has withdrawn from the ward
+-- a candidate with the given number has withdrawn from the ward
 abbrev pub has_withdrawn : OfficeState → ℕ → ℕ → Bool
 has_withdrawn s ward candidate = list_any (has_subject (subject_of (candidates.Withdraw ward candidate))) (office_receipts s)
 
--- for a candidate: the name. If a candidate with this number has withdrawn, nothing is stored about that candidate, and any candidate who has the number
--- since then is a different one.
+-- for a candidate: the name. If a candidate with the given number has withdrawn, nothing is stored about that candidate, and any candidate who now has
+-- the number is a different one.
 abbrev pub is_candidate_otherwise : OfficeState → CandidateCommand → Bool
 is_candidate_otherwise s (candidates.Add ward candidate name) =
     is_there (has_other_name (string_bytes name)) (candidate_at s ward candidate) && not (has_withdrawn s ward candidate)
@@ -88,7 +88,7 @@ is_batch_otherwise s (batches.Add batch ward size first_clerk second_clerk) = no
 is_batch_otherwise s (batches.Again batch) = false
 is_batch_otherwise s (batches.Third batch clerk) = not (is_third_clerk clerk (third_at s batch))
 
--- for a keying: the papers that the clerk keyed from the batch in the round
+-- for a keying: the papers that the clerk keyed for the batch in that round
 abbrev pub is_keying_otherwise : OfficeState → ℕ → KeyingCommand → Bool
 is_keying_otherwise s clerk command = not (has_texts (keying_of s command.batch command.round clerk) (texts_of command))
 
@@ -103,7 +103,7 @@ is_count_otherwise s (counts.Advance ward) = false
 is_count_otherwise s (counts.Lot ward stage candidate) = not (list_any (is_drawn stage candidate) (lots_of s ward))
 is_count_otherwise s (counts.Declare ward) = false
 
--- what the state has stored for an actor's command differs from the command
+-- what the state has stored about an actor's command differs from the command
 abbrev pub is_otherwise : OfficeState → ℕ → Command → Bool
 is_otherwise s actor (Ward command) = is_ward_otherwise s command
 is_otherwise s actor (Candidate command) = is_candidate_otherwise s command
@@ -112,6 +112,6 @@ is_otherwise s actor (Keying command) = is_keying_otherwise s actor command
 is_otherwise s actor (Verdict command) = is_verdict_otherwise s command
 is_otherwise s actor (Count command) = is_count_otherwise s command
 
--- the same for a request that was kept
+-- what the state has stored about a kept request differs from the request
 abbrev pub is_kept_otherwise : OfficeState → Request → Bool
 is_kept_otherwise s r = is_otherwise s r.actor r.command

@@ -5,7 +5,7 @@ use Rattle.register.specs.Offices.{KeyedEntry, ReceiptEntry, OfficeState}
 use Rattle.register.specs.Effects.{at_stage}
 
 -- A clerk sees the wards and their phases, the candidates, the batches with their clerks and rounds, and the clerk's own keyings and receipts. A clerk
--- sees nothing of other clerks' keyings, of whether a batch is taken, of verdicts, of lots, of stages done, or of other actors' receipts.
+-- doesn't see other clerks' keyings, whether a batch is taken, verdicts, lots, completed stages, or other actors' receipts.
 abbrev pub seen_by : ℕ → OfficeState → OfficeState
 seen_by clerk s =
     record {

@@ -1,4 +1,4 @@
--- Which maps form a state: the conditions that are checked one by one when an office is opened, and that every step preserves.
+-- The conditions that maps must meet to form a state: they are checked one by one when an office is opened, and every step preserves them.
 use Rattle.std.specs.Prelude.{◌≡◌, Bool, true, ◌&&◌, ◌||◌, List, ℕ, nat_le, is_some}
 use Rattle.std.specs.List.{list_all}
 use Rattle.std.specs.Str.{is_utf8}
@@ -38,11 +38,11 @@ is_judged_paper v = is_batch_number v.batch && (is_paper_number v.paper && (nat_
 unfoldable pub is_lot : LotEntry → Bool
 is_lot l = is_ward_number l.ward && (is_lot_stage l.stage && is_candidate_number l.candidate)
 
--- a subject of the office's commands if the actor is the office, or of a clerk's commands if the actor is a clerk
+-- a subject that the actor's receipts may have: the subject of an office command if the actor is the office, or of a clerk's command if the actor is a clerk
 abbrev pub is_about : ℕ → List ℕ → Bool
 is_about actor subject = (is_office actor && is_office_subject subject) || (is_clerk actor && is_clerk_subject subject)
 
--- a receipt of the office or of a clerk, with a subject of that actor's commands
+-- a receipt for the office or for a clerk, with a subject that is permitted for that actor
 unfoldable pub is_receipt : ReceiptEntry → Bool
 is_receipt r = is_about r.actor r.subject && (is_utf8 r.subject && (is_id r.id && is_reply r.reply))
 
@@ -57,13 +57,13 @@ all_in_range s =
 abbrev pub all_nominated : OfficeState → Bool
 all_nominated s = list_all (λ c. is_some (ward_at s c.ward)) s.candidates && list_all (λ w. are_enough w.phase w (candidates_of s w.number)) s.wards
 
--- the third condition: every batch belongs to a contested ward past its nominations and has two different clerks; every third clerk belongs to an existing
--- batch and is neither of its two clerks
+-- the third condition: every batch belongs to a contested ward that is past nominations and has two different clerks; every third clerk belongs to an
+-- existing batch and is neither of its two clerks
 abbrev pub all_given_out : OfficeState → Bool
 all_given_out s = list_all (is_given_out s) s.batches && list_all (λ t. is_third_for t (batch_at s t.batch)) s.thirds
 
 -- the fourth condition: every keyed paper belongs to an existing batch, one of its rounds and one of its clerks, and its marks can be read; keyings are
--- whole, and the keyings of an earlier round differ
+-- whole; and the keyings of each earlier round differ
 abbrev pub all_keyed : OfficeState → Bool
 all_keyed s = list_all (λ k. is_keyed_for s k (batch_at s k.batch)) s.keyings && list_all (λ b. are_rounds_to s b b.round) s.batches
 
@@ -75,12 +75,12 @@ all_judged s = list_all (λ v. is_some (batch_at s v.batch)) s.verdicts && list_
 unfoldable pub all_agreed : OfficeState → Bool
 all_agreed s = list_all (λ w. is_agreed (election_of s w)) s.wards
 
--- the seventh condition: every lot belongs to an existing ward; the stages done and the lots are those of the count, and there are none before the count
--- begins
+-- the seventh condition: every lot belongs to an existing ward; the completed stages and the lots are those of the count, and there are none before the
+-- count begins
 unfoldable pub all_counted : OfficeState → Bool
 all_counted s = list_all (λ l. is_some (ward_at s l.ward)) s.lots && list_all (λ w. is_counted_right (election_of s w)) s.wards
 
--- the maps of an office whose entries meet every condition and are in key order
+-- the maps of an office: their entries meet every condition and are in key order
 pub record IsState (s : OfficeState) : Type 0 where
   pub in_range : all_in_range s ≡ true
   pub nominated : all_nominated s ≡ true

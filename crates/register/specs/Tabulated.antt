@@ -32,7 +32,7 @@ use Rattle.register.specs.Elections.{ElectionEntry, election_of, has_count, is_i
 
 -- ---- entries
 
--- a bundle of equal ballot papers of a ward: their list of preferences, their number, their holder (0 for none), and the value, in units, at which the
+-- a bundle of equal ballot papers of a ward: their preferences, the number of papers, their holder (0 for none), and the value, in units, at which the
 -- holder received each of them
 pub record PlacedEntry : Type 0 where
   pub ward : ℕ
@@ -41,7 +41,7 @@ pub record PlacedEntry : Type 0 where
   pub holder : ℕ
   pub value : ℕ
 
--- a figure of a stage of a ward's count, in units, with its mark
+-- a figure from a stage of a ward's count, in units, with its mark
 pub record FigureEntry : Type 0 where
   pub ward : ℕ
   pub stage : ℕ
@@ -64,7 +64,7 @@ figure_cmp = then_cmp (on (λ (f : FigureEntry). f.ward) nat_cmp) (then_cmp (on 
 
 -- ---- the tabulation of a state
 
--- an election whose count has at least one stage
+-- the count of the election has at least one stage
 abbrev pub has_stages : ElectionEntry → Bool
 has_stages e = has_count e && not (e.ward.done == 0)
 
@@ -72,7 +72,7 @@ has_stages e = has_count e && not (e.ward.done == 0)
 abbrev pub placed_at : ℕ → Bundle → Place → PlacedEntry
 placed_at ward b at = record { ward = ward; list = b.0; papers = b.1; holder = at.holder; value = at.value }
 
--- a bundle of a ward, with its place after some stages
+-- a bundle of a ward, with its place after the given stages
 abbrev pub placed_after : ElectionEntry → History → Bundle → PlacedEntry
 placed_after e stages b = placed_at e.ward.number b (place (contest_of e) stages b.0)
 
@@ -80,7 +80,7 @@ placed_after e stages b = placed_at e.ward.number b (place (contest_of e) stages
 abbrev pub bundles_in : ElectionEntry → List PlacedEntry
 bundles_in e = if has_stages e then map (placed_after e (stages_of e)) (bundled e.ballots.papers) else []
 
--- a figure of a stage of a ward's count
+-- a figure from a stage of a ward's count
 abbrev pub figure_at : ℕ → ℕ → Figure → FigureEntry
 figure_at ward stage f = record { ward = ward; stage = stage; candidate = f.candidate; units = f.units; mark = f.mark }
 
@@ -89,7 +89,7 @@ abbrev pub figures_to : ℕ → List ℕ → History → List FigureEntry
 figures_to ward candidates [] = []
 figures_to ward candidates (s ∷ before) = figures_to ward candidates before ++ map (figure_at ward (length before + 1)) (figures_at candidates (s ∷ before))
 
--- all figures of the stages done in a ward
+-- all figures for the completed stages of a ward
 abbrev pub figures_in : ElectionEntry → List FigureEntry
 figures_in e = if has_stages e then figures_to e.ward.number (columns_of e.candidates) (stages_of e) else []
 
@@ -118,15 +118,15 @@ pub record AdditionEntries : Type 0 where
 abbrev pub no_addition : AdditionEntries
 no_addition = record { placed = []; moved = []; figures = [] }
 
--- the bundles, with this one moved to its new place
+-- the bundles, with the given one moved to its new place
 abbrev pub moved_to : PlacedEntry → List PlacedEntry → List PlacedEntry
 moved_to b bundles = map (λ x. if is_eq (placed_cmp b x) then b else x) bundles
 
--- a tabulation, extended by an addition
+-- a tabulation with an addition applied
 abbrev pub with_addition : AdditionEntries → TabulationEntries → TabulationEntries
 with_addition a t = record { bundles = a.placed ++ fold (λ bundles b. moved_to b bundles) t.bundles a.moved; figures = a.figures ++ t.figures }
 
--- the same entries, in any order
+-- two tabulations have the same entries, in any order
 pub record SameTabulation (t u : TabulationEntries) : Type 0 where
   pub bundles : IsPermutation t.bundles u.bundles
   pub figures : IsPermutation t.figures u.figures
@@ -145,7 +145,7 @@ tabulation_entries t = record { bundles = map placed_entry t.bundles.items; figu
 abbrev pub addition_entries : Addition → AdditionEntries
 addition_entries a = record { placed = map placed_entry a.placed.items; moved = map placed_entry a.moved.items; figures = map figure_entry a.figures.items }
 
--- the bundle and the place of a tabulated bundle, and a tabulated figure, in the count's own form
+-- the bundle and the place of a tabulated bundle, and a tabulated figure, each in the form used by the count
 abbrev pub bundle_of : PlacedEntry → Bundle
 bundle_of b = (b.list, b.papers)
 
@@ -167,7 +167,7 @@ AddsWhatIsCounted s (Refused why) = ⊤
 
 -- ---- reading a count back
 
--- these are the candidates, seats, bundles and figures of an election whose count has at least one stage
+-- the given candidates, seats, bundles and figures are those of an election whose count has at least one stage
 pub record AreOfCount (e : ElectionEntry) (candidates : List ℕ) (seats : ℕ) (bundles : List PlacedEntry) (figures : List FigureEntry) : Type 0 where
   pub begun : has_stages e ≡ true
   pub fair : IsContest (contest_of e)
@@ -179,7 +179,7 @@ pub record AreOfCount (e : ElectionEntry) (candidates : List ℕ) (seats : ℕ) 
 
 -- ---- the count that is part of a view
 
--- this is the stored count of an election, with its lots
+-- a count is the stored count of an election, with its lots
 pub record IsCountOf (e : ElectionEntry) (count : CountValue) : Type 0 where
   pub kept_is : IsStoredCountOf (contest_of e) (stages_of e) count.kept
   pub lots_are : count.lots.items ≡ e.lots
@@ -188,7 +188,7 @@ pub record IsCountOf (e : ElectionEntry) (count : CountValue) : Type 0 where
 abbrev pub IsCount : ElectionEntry → Option CountValue → Type 0
 IsCount e found = (count : CountValue) × (found ≡ Some count) × IsCountOf e count
 
--- this is the count of an election if the election is in count; otherwise there is none
+-- a count is that of the election if the election is in count; otherwise there is none
 abbrev pub IsCountIn : ElectionEntry → Option CountValue → Type 0
 IsCountIn e None = is_in_count e ≡ false
 IsCountIn e (Some count) = (is_in_count e ≡ true) × IsCountOf e count
@@ -199,12 +199,12 @@ pub record IsCountedWard (e : ElectionEntry) (found : CountedWard) : Type 0 wher
   pub candidates_are : map candidate_entry found.candidates.items ≡ e.candidates
   pub count_is : IsCountIn e found.count
 
--- the same, and if the election is in count, the numbers of its rejected papers
+-- the contents of a stage sheet: the ward, the candidates and, if the election is in count, its count and the numbers of its rejected papers
 pub record IsSheetOf (e : ElectionEntry) (sheet : WardSheet) : Type 0 where
   pub counted_is : IsCountedWard e sheet.counted
   pub rejected_are : is_in_count e ≡ true → sheet.rejected ≡ e.ballots.rejected
 
--- if a stage is to be counted in a contested ward, the view includes its count
+-- if the command counts a stage in a contested ward, the view includes the ward's count
 abbrev pub IsCountFor : OfficeState → Command → Option CountValue → Type 0
 IsCountFor s (Count (Advance ward)) shown = (w : WardEntry) → ward_at s ward ≡ Some w → has_count (election_of s w) ≡ true → IsCount (election_of s w) shown
 IsCountFor s command shown = ⊤

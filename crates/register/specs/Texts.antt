@@ -3,7 +3,7 @@ use Rattle.std.specs.Prelude.{ℕ, List, [], ◌∷◌, ◌++◌, codes}
 use Rattle.std.specs.List.{flat_map}
 use Rattle.std.specs.Fmt.{decimal}
 
--- a number that follows another: `, 3`
+-- the text of a number that follows another: `, 3`
 abbrev pub behind : ℕ → List ℕ
 behind n = codes ", " ++ decimal n
 

@@ -1,4 +1,5 @@
--- The command for a doubtful paper: the part of the state that it needs, the objections to it, and its subject, reply and effect.
+-- The command that judges a doubtful paper: the part of the state that it needs, the objections to it, and its subject, reply and
+-- effect.
 use Rattle.std.specs.Prelude.{ℕ, Bool, not, ◌&&◌, List, [], ◌∷◌, ◌++◌, codes, string_bytes, Option, None, is_some}
 use Rattle.std.specs.Fmt.{decimal}
 use Rattle.register.specs.declared.refusal.Reason.{Reason}
@@ -34,12 +35,12 @@ is_in_range actor command = is_office actor && (is_batch_number command.batch &&
 abbrev pub is_rejection_code : ℕ → Bool
 is_rejection_code = is_between 3 5
 
--- the objection to the marks of an accepting verdict
+-- the objection to the marks in an accepting verdict
 abbrev pub verdict_objection : List ℕ → ℕ → Verdict → Option Reason
 verdict_objection columns paper (Accept marks) = marks_objection columns paper (string_bytes marks)
 verdict_objection columns paper (Reject code) = None
 
--- an accepted paper is valid by its marks, and a rejection has a permitted code
+-- an accepted paper must be valid according to its marks, and a rejection must have a permitted code
 abbrev pub is_verdict : List ℕ → Verdict → Bool
 is_verdict columns (Accept marks) = is_valid columns (string_bytes marks)
 is_verdict columns (Reject code) = is_rejection_code code
@@ -58,11 +59,11 @@ objections actor command part =
     ∷ []
     )
 
--- the subject of the receipt, which identifies a command when it is repeated under the same id
+-- the subject of the receipt, which identifies a command that is repeated with the same id
 unfoldable pub subject_of : VerdictCommand → List ℕ
 subject_of command = codes "judge " ++ (decimal command.batch ++ (codes " " ++ decimal command.paper))
 
--- the word in the reply that states the verdict
+-- the word in the reply that reports the verdict
 abbrev pub verdict_word : Verdict → List ℕ
 verdict_word (Accept marks) = codes " accepted"
 verdict_word (Reject code) = codes " rejected " ++ decimal code

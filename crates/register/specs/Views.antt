@@ -1,4 +1,4 @@
--- What a view shows of a state, and the meaning of a decision.
+-- What a view shows of a state, and what a decision means.
 use Rattle.std.specs.Prelude.{◌≡◌, ⊤, ℕ, ◌∷◌, Some, None, option_map, string_bytes}
 use Rattle.count.specs.Law.Count.{stage_of}
 use Rattle.count.specs.declared.stages.Action.{Action}
@@ -17,8 +17,8 @@ use Rattle.register.specs.Keyings.{reply_to}
 use Rattle.register.specs.Tabulated.{IsCountFor}
 use Rattle.register.specs.Machine.{Ruling, accepts, keeps, refuses, Outcome, accepted, outcome_at, decided, part_of}
 
--- the view shows what the state has for this command: its receipt or, if there is none, the part of the state that the command needs, and the count to
--- which a stage is to be added
+-- the view shows what the state has for the given command: its receipt or, if there is none, the part of the state that the command needs, and the
+-- count to which a stage will be added
 pub record IsViewOf (s : OfficeState) (command : Command) (view : View) : Type 0 where
   pub receipt : option_map receipt_entry view.receipt ≡ receipt_at s view.actor view.id.now
   pub part : receipt_at s view.actor view.id.now ≡ None → input_entries view.part ≡ part_of s view.actor command
@@ -38,12 +38,12 @@ ruling_of (Refused why) = refuses why
 abbrev pub outcome_of : OfficeState → Decision → Outcome
 outcome_of s decision = outcome_at s (ruling_of decision)
 
--- The reply to an accepted keying depends only on the command, so it is the same whatever other clerks keyed.
+-- The reply to an accepted keying depends only on the command, so it is the same no matter what other clerks have keyed.
 abbrev pub IsToldAlike : Command → Ruling → Type 0
 IsToldAlike (Keying command) (accepts change reply) = reply ≡ reply_to command
 IsToldAlike command ruling = ⊤
 
--- The count of a ward has one more stage than before: the stage that was due. The earlier stages are unchanged.
+-- The count of a ward has one stage more than before, namely the stage that was due. The earlier stages are unchanged.
 pub record HasStageMore (s next : OfficeState) (ward : ℕ) : Type 0 where
   pub before : WardEntry
   pub found : ward_at s ward ≡ Some before
@@ -62,7 +62,7 @@ pub record HasSameStages (s next : OfficeState) (ward : ℕ) : Type 0 where
   pub done : after.done ≡ before.done
   pub same : stages_of (election_of next after) ≡ stages_of (election_of s before)
 
--- an accepted Advance adds the next stage to those of the ward; an accepted Lot or Declare leaves the stages unchanged
+-- an accepted Advance adds the next stage to the ward's stages; an accepted Lot or Declare leaves the stages unchanged
 abbrev pub IsAdvanced : OfficeState → Command → Outcome → Type 0
 IsAdvanced s (Count (Advance ward)) (accepted next reply) = HasStageMore s next ward
 IsAdvanced s (Count (Lot ward stage candidate)) (accepted next reply) = HasSameStages s next ward

@@ -1,4 +1,4 @@
--- How private functions of this crate iterate over lists. No public contract refers to this file, so readers of the contracts can skip
+-- How this crate's private functions iterate over lists. No public contract refers to this file, so readers of the contracts can skip
 -- it.
 use Rattle.std.specs.Prelude.{ℕ, ◌+◌, ◌-◌, ◌==◌, ◌&&◌, Bool, if◌then◌else◌, List, [], ◌∷◌, map, length, reverse, slice_index}
 use Rattle.count.specs.Bundles.{Bundle}
@@ -10,7 +10,7 @@ use Rattle.register.specs.declared.polls.Judgement.{Judgement}
 use Rattle.register.specs.Polls.{is_rejected}
 use Rattle.register.specs.Tabulated.{PlacedEntry, FigureEntry, AdditionEntries, placed_at, figure_at, figures_to}
 
--- the numbers of papers rejected with each code from 1 to 5, updated by one judgement; folded over all judgements, this is
+-- the number of papers rejected with each code from 1 to 5, updated for one judgement; folding this over all judgements yields
 -- `rejected_with` for each code
 abbrev pub and_rejected : List ℕ → Judgement → List ℕ
 and_rejected rejected judgement =
@@ -20,7 +20,7 @@ and_rejected rejected judgement =
 abbrev pub is_same_placed : Placed → Placed → Bool
 is_same_placed old new = (old.holder == new.holder) && (old.value == new.value)
 
--- the bundles of a ward whose old and new places differ
+-- a ward's bundles whose old and new places differ
 abbrev pub moved_bundles : ℕ → List Bundle → List Placed → List Placed → List PlacedEntry
 moved_bundles ward [] before now = []
 moved_bundles ward (b ∷ bs) [] now = []
@@ -32,7 +32,7 @@ moved_bundles ward (b ∷ bs) (old ∷ before) (new ∷ now) =
 abbrev pub last_figures : ℕ → List ℕ → List Stage → List FigureEntry
 last_figures ward candidates stages = map (figure_at ward (length stages)) (figures_at candidates (reverse stages))
 
--- what the first stage of a ward's count adds, given the new places of its bundles, and its stages
+-- what the first stage of a ward's count adds, given its bundles, their new places, and the stages
 abbrev pub all_added : ℕ → List ℕ → List Bundle → (List ℕ → Place) → List Stage → AdditionEntries
 all_added ward candidates bundles now stages = record { placed = map (λ (b : Bundle). placed_at ward b (now b.0)) bundles; moved = []; figures = figures_to ward candidates (reverse stages) }
 

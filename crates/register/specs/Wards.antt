@@ -1,4 +1,4 @@
--- The commands for wards: for each, the part of the state that it needs, the objections to it, and its subject, reply and effect.
+-- Ward commands: for each, the part of the state that it needs, the objections to it, and its subject, reply and effect.
 use Rattle.std.specs.Prelude.{ℕ, Bool, false, not, ◌&&◌, if◌then◌else◌, List, [], ◌∷◌, ◌++◌, codes, string_bytes, Option, Some, None, is_some}
 use Rattle.std.specs.Fmt.{decimal}
 use Rattle.register.specs.declared.phase.Phase.{Phase}
@@ -31,7 +31,7 @@ objections actor (Add ward seats name) part =
 objections actor (Close ward) part =
     objection (not (is_in_range actor (Close ward))) NumberOutOfRange ∷ phase_objections Nominations part.ward ++ (objection (not (is_stood_in part.candidates)) NoCandidates ∷ [])
 
--- the ward is to be polled: it exists and is contested
+-- a ward requires a poll: it exists and is contested
 abbrev pub is_to_be_polled : Option WardEntry → List CandidateEntry → Bool
 is_to_be_polled None candidates = false
 is_to_be_polled (Some w) candidates = is_contested w candidates
@@ -40,16 +40,16 @@ is_to_be_polled (Some w) candidates = is_contested w candidates
 abbrev pub closed_phase : CommandInputEntries → Phase
 closed_phase part = if is_to_be_polled part.ward part.candidates then Keying else Sealed
 
--- the word in the reply that says whether a ward whose nominations close is polled
+-- the word in the reply that says whether the ward whose nominations close will be polled
 abbrev pub closed_word : CommandInputEntries → List ℕ
 closed_word part = if is_to_be_polled part.ward part.candidates then codes " polled" else codes " uncontested"
 
--- the subject of the receipt, which identifies a command when it is repeated under the same id
+-- the subject of the receipt, which identifies a command that is repeated with the same id
 unfoldable pub subject_of : WardCommand → List ℕ
 subject_of (Add ward seats name) = codes "ward " ++ decimal ward
 subject_of (Close ward) = codes "close " ++ decimal ward
 
--- the reply to an accepted command; appends associate to the right, because that is how the text is written
+-- the reply to an accepted command; the appends are right-associative, because that is how the text is written
 unfoldable pub reply_to : WardCommand → CommandInputEntries → List ℕ
 reply_to (Add ward seats name) part = codes "ward " ++ (decimal ward ++ codes " added")
 reply_to (Close ward) part = codes "ward " ++ (decimal ward ++ closed_word part)

@@ -1,5 +1,5 @@
--- An example office, worked out by hand, request by request from the empty office: the reply to each request, and the state that it leads to. If a row
--- follows another, it starts from the state that the other row leads to.
+-- An example office, worked out by hand, request by request, starting with the empty office: the reply to each request, and the state to which it leads.
+-- A row that follows another starts in the state to which the other row leads.
 use Rattle.std.specs.Prelude.{◌≡◌, ℕ, true, false, List, [], ◌∷◌, ◌++◌, map, codes, string_bytes}
 use Rattle.std.specs.declared.string.String.{String}
 use Rattle.std.specs.declared.vec.Vec.{Vec}
@@ -23,11 +23,11 @@ use Rattle.register.specs.Repeats.{is_otherwise}
 
 -- ---- requests
 
--- a statement about every text with these bytes
+-- a statement about every text that consists of the given bytes
 abbrev pub Written : List ℕ → (String Global → Type 0) → Type 0
 Written letters P = (text : String Global) → string_bytes text ≡ letters → P text
 
--- a statement about every list of papers with these marks
+-- a statement about every list of papers that have the given marks
 abbrev pub Marked : List (List ℕ) → (Vec (String Global) Global → Type 0) → Type 0
 Marked marks P = (papers : Vec (String Global) Global) → map string_bytes papers.items ≡ marks → P papers
 
@@ -47,7 +47,7 @@ adds_candidate ward number name = commands.Candidate (candidates.Add ward number
 abbrev pub adds_batch : ℕ → ℕ → ℕ → ℕ → ℕ → Command
 adds_batch batch ward size first_clerk second_clerk = commands.Batch (batches.Add batch ward size first_clerk second_clerk)
 
--- reopens a batch in its next round
+-- reopens a batch for its next round
 abbrev pub opens_again : ℕ → Command
 opens_again batch = commands.Batch (batches.Again batch)
 
@@ -82,18 +82,18 @@ eve ward = record { ward = ward; number = 2; name = codes "Eve" }
 abbrev pub fay : ℕ → CandidateEntry
 fay ward = record { ward = ward; number = 3; name = codes "Fay" }
 
--- the batch of two papers of Harbour that clerks 4 and 9 key, in a round; and a batch of one paper
+-- the batch with two papers from Harbour, keyed by clerks 4 and 9, in the given round; and a batch with one paper
 abbrev pub batch_in : ℕ → BatchEntry
 batch_in round = record { number = 12; ward = 7; size = 2; first_clerk = 4; second_clerk = 9; round = round }
 
 abbrev pub other_batch : BatchEntry
 other_batch = record { number = 13; ward = 7; size = 1; first_clerk = 9; second_clerk = 4; round = 1 }
 
--- the two papers of the batch as keyed by a clerk in the first round; the second paper is keyed as doubtful
+-- the two papers of the batch as keyed by the given clerk in the first round; the second paper is keyed as doubtful
 abbrev pub keyed : ℕ → List ℕ → List KeyedEntry
 keyed clerk marks = record { batch = 12; round = 1; clerk = clerk; paper = 1; marks = marks } ∷ record { batch = 12; round = 1; clerk = clerk; paper = 2; marks = codes "D" } ∷ []
 
--- a receipt of the office with an id, a subject and a reply; and the receipt of a clerk's keying
+-- a receipt for an office request with the given id, subject and reply; and the receipt for a clerk's keying
 abbrev pub told : List ℕ → List ℕ → List ℕ → ReceiptEntry
 told id subject reply = record { actor = 0; id = id; subject = subject; reply = reply }
 
@@ -102,11 +102,11 @@ told_keyed clerk = record { actor = clerk; id = codes "k1"; subject = codes "key
 
 -- ---- states
 
--- Harbour in nominations, with these candidates, and these receipts after the receipt of the ward
+-- Harbour in nominations, with the given candidates, and with the given receipts after the ward's own receipt
 abbrev pub in_nominations : List CandidateEntry → List ReceiptEntry → OfficeState
 in_nominations stand behind = record empty_office { wards = harbour Nominations ∷ []; candidates = stand; receipts = told (codes "w1") (codes "ward 7") (codes "ward 7 added") ∷ behind }
 
--- the receipts of the candidates of Harbour
+-- the receipts for the candidates in Harbour
 abbrev pub told_of_dee : ReceiptEntry
 told_of_dee = told (codes "x1") (codes "candidate 7 1") (codes "candidate 1 of ward 7 added")
 
@@ -116,7 +116,7 @@ told_of_eve = told (codes "x2") (codes "candidate 7 2") (codes "candidate 2 of w
 abbrev pub told_of_fay : ReceiptEntry
 told_of_fay = told (codes "x3") (codes "candidate 7 3") (codes "candidate 3 of ward 7 added")
 
--- the receipt of Dee's withdrawal
+-- the receipt for Dee's withdrawal
 abbrev pub told_withdrawn : ReceiptEntry
 told_withdrawn = told (codes "x4") (codes "withdraw 7 1") (codes "candidate 1 of ward 7 withdrawn")
 
@@ -124,7 +124,7 @@ told_withdrawn = told (codes "x4") (codes "withdraw 7 1") (codes "candidate 1 of
 abbrev pub three_stand : OfficeState
 three_stand = in_nominations (dee 7 ∷ eve 7 ∷ fay 7 ∷ []) (told_of_dee ∷ told_of_eve ∷ told_of_fay ∷ [])
 
--- Harbour in keying, with its three candidates, these batches, keyed papers and verdicts, and these receipts after those from the nominations
+-- Harbour in keying, with its three candidates, the given batches, keyed papers and verdicts, and the given receipts after those from the nominations
 abbrev pub in_keying : List BatchEntry → List KeyedEntry → List JudgedEntry → List ReceiptEntry → OfficeState
 in_keying given papers verdicts behind =
     record {
@@ -144,7 +144,7 @@ told_of_batch = told (codes "z1") (codes "batch 12") (codes "batch 12 added")
 abbrev pub told_of_other : ReceiptEntry
 told_of_other = told (codes "z2") (codes "batch 13") (codes "batch 13 added")
 
--- both batches are assigned; then clerk 4 has keyed the first batch; then clerk 9 has keyed it too, with these marks on its first paper
+-- both batches are assigned; then clerk 4 keys the first batch; then clerk 9 keys it too, with the given marks on its first paper
 abbrev pub given_out : OfficeState
 given_out = in_keying (batch_in 1 ∷ other_batch ∷ []) [] [] (told_of_batch ∷ told_of_other ∷ [])
 
@@ -166,7 +166,7 @@ reopened =
     in_keying (batch_in 2 ∷ other_batch ∷ []) (keyed 4 (codes "1,2,") ++ keyed 9 (codes "2,1,")) []
     (told_of_batch ∷ told_of_other ∷ told (codes "z3") (codes "again 12") (codes "batch 12 round 2 open") ∷ told_keyed 4 ∷ told_keyed 9 ∷ [])
 
--- the keyings of the batch differ, and it is assigned to clerk 5 as well; then clerk 5 has keyed it, with these marks on its first paper
+-- the keyings of the batch differ, and it is assigned to clerk 5 as well; then clerk 5 keys it, with the given marks on its first paper
 abbrev pub given_to_third : List KeyedEntry → List ReceiptEntry → OfficeState
 given_to_third papers behind =
     record (in_keying (batch_in 1 ∷ other_batch ∷ []) papers [] (told_of_batch ∷ told_of_other ∷ told (codes "z3") (codes "third 12") (codes "batch 12 third clerk 5") ∷ behind)) {
@@ -179,11 +179,11 @@ third_set = given_to_third (keyed 4 (codes "1,2,") ++ keyed 9 (codes "2,1,")) (t
 abbrev pub third_keyed : List ℕ → OfficeState
 third_keyed marks = given_to_third (keyed 4 (codes "1,2,") ++ (keyed 5 marks ++ keyed 9 (codes "2,1,"))) (told_keyed 4 ∷ told_keyed 5 ∷ told_keyed 9 ∷ [])
 
--- an office with the ward Quay alone, in a phase, with these candidates and receipts
+-- an office in which Quay is the only ward, in the given phase, with the given candidates and receipts
 abbrev pub with_quay : Phase → List CandidateEntry → List ReceiptEntry → OfficeState
 with_quay phase stand behind = record empty_office { wards = quay phase ∷ []; candidates = stand; receipts = told (codes "w1") (codes "ward 8") (codes "ward 8 added") ∷ behind }
 
--- Quay's two candidates, their receipts, and the receipt for closing its nominations
+-- Quay's two candidates, their receipts, and the receipt for closing Quay's nominations
 abbrev pub both_there : List CandidateEntry
 both_there = dee 8 ∷ eve 8 ∷ []
 
@@ -198,7 +198,7 @@ told_closed = told (codes "y1") (codes "close 8") (codes "ward 8 uncontested")
 
 -- ---- the rows
 
--- The first ward is added once, even if the request is repeated. An id belongs to one subject and has no capital letters.
+-- The first ward is added once, even if the request is repeated. An id belongs to a single subject and has no capital letters.
 pub record WardRows : Type 0 where
   pub added : Written (codes "Harbour") (λ name. step empty_office 0 (codes "w1") (adds_ward 7 2 name) ≡ accepted (in_nominations [] []) (codes "ward 7 added"))
   pub again : Written (codes "Harbour") (λ name. step (in_nominations [] []) 0 (codes "w1") (adds_ward 7 2 name) ≡ kept (codes "ward 7 added"))
@@ -219,8 +219,8 @@ pub record NominationRows : Type 0 where
   pub batch_given_out : step (in_keying [] [] [] []) 0 (codes "z1") (adds_batch 12 7 2 4 9) ≡ accepted (in_keying (batch_in 1 ∷ []) [] [] (told_of_batch ∷ [])) (codes "batch 12 added")
   pub other_given_out : step (in_keying (batch_in 1 ∷ []) [] [] (told_of_batch ∷ [])) 0 (codes "z2") (adds_batch 13 7 1 9 4) ≡ accepted given_out (codes "batch 13 added")
 
--- Two clerks key a batch, and each gets the same reply whatever the other keyed. If their keyings are equal, the batch is taken, and its doubtful paper
--- is judged. If they differ, the ward isn't ready to be sealed, and the batch is keyed again.
+-- Two clerks key a batch, and each gets the same reply no matter what the other keyed. If their keyings are equal, the batch is taken, and its doubtful
+-- paper is judged. If they differ, the ward isn't ready to be sealed, and the batch is keyed again.
 pub record KeyedRows : Type 0 where
   pub first_clerk : Marked (codes "1,2," ∷ codes "D" ∷ []) (λ papers. step given_out 4 (codes "k1") (keys 12 1 papers) ≡ accepted keyed_once (codes "batch 12 round 1 keyed"))
   pub kept_whatever : (papers : Vec (String Global) Global) → step keyed_once 4 (codes "k1") (keys 12 1 papers) ≡ kept (codes "batch 12 round 1 keyed")
@@ -236,7 +236,7 @@ pub record KeyedRows : Type 0 where
   pub open_again : step (keyed_twice (codes "2,1,")) 0 (codes "z3") (opens_again 12) ≡ accepted reopened (codes "batch 12 round 2 open")
 
 -- A third clerk is assigned once, only if the two keyings differ, and is neither of the two clerks. The batch is taken as soon as any two keyings agree,
--- with the papers of those keyings; until then it differs.
+-- with the papers of those keyings; until then the batch differs.
 pub record ThirdRows : Type 0 where
   pub not_his_yet : (papers : Vec (String Global) Global) → step (keyed_twice (codes "2,1,")) 5 (codes "k1") (keys 12 1 papers) ≡ refused NotItsClerk
   pub one_of_two : step (keyed_twice (codes "2,1,")) 0 (codes "z3") (sets_third 12 9) ≡ refused SameClerk
@@ -264,8 +264,9 @@ pub record UncontestedRows : Type 0 where
   pub all_elected : step (with_quay Sealed both_there (told_of_both ++ told_closed ∷ [])) 0 (codes "z1") (commands.Count (counts.Declare 8))
       ≡ accepted (with_quay Declared both_there (told_of_both ++ told_closed ∷ told (codes "z1") (codes "declare 8") (codes "ward 8 declared: 1, 2") ∷ [])) (codes "ward 8 declared: 1, 2")
 
--- A repeated command either matches what is stored about it or differs: in seats, name, size, third clerk, marks or verdict. Nothing is stored about a
--- withdrawn candidate, and a later candidate with the same number is a different one. A command that its subject describes completely never differs.
+-- A repeated command either matches what is stored about the original or differs from it: in seats, name, size, third clerk, marks or verdict. Nothing
+-- is stored about a withdrawn candidate, and a later candidate with the same number is a different one. A command that its subject describes completely
+-- never differs.
 pub record RepeatRows : Type 0 where
   pub same_ward : Written (codes "Harbour") (λ name. is_otherwise (in_nominations [] []) 0 (adds_ward 7 2 name) ≡ false)
   pub other_seats : Written (codes "Harbour") (λ name. is_otherwise (in_nominations [] []) 0 (adds_ward 7 3 name) ≡ true)

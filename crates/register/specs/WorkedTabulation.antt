@@ -5,8 +5,8 @@ use Rattle.register.specs.Tabulated.{PlacedEntry, FigureEntry, bundles_in, figur
 use Rattle.register.specs.Elections.{ElectionEntry}
 use Rattle.register.specs.WorkedOffice.{harbour, dee, eve, fay}
 
--- the election in Harbour after this number of stages: three candidates contest its two seats; of its nine papers, four read 1, 2; two read 1, 3; one
--- reads 2; and two read 3
+-- the election in Harbour after the given number of stages: three candidates contest its two seats; of its nine papers, four read 1, 2; two read 1, 3;
+-- one reads 2; and two read 3
 abbrev pub harbour_after : ℕ → ElectionEntry
 harbour_after done =
     record {
@@ -16,7 +16,7 @@ harbour_after done =
       lots = [];
     }
 
--- a bundle of Harbour, and a figure
+-- a bundle from Harbour, and a figure
 abbrev pub lies : List ℕ → ℕ → ℕ → ℕ → PlacedEntry
 lies list papers holder value = record { ward = 7; list = list; papers = papers; holder = holder; value = value }
 
@@ -30,8 +30,8 @@ first_figures = shows 1 0 0 0 ∷ shows 1 1 600000 1 ∷ shows 1 2 100000 0 ∷ 
 abbrev pub second_figures : List FigureEntry
 second_figures = shows 2 0 0 0 ∷ shows 2 1 400000 3 ∷ shows 2 2 233332 0 ∷ shows 2 3 266666 0 ∷ shows 2 99 2 0 ∷ []
 
--- Before the first stage nothing is tabulated. After it, each bundle is held by its first preference, at one vote. After the second stage, the bundles of
--- candidate 1, who has 2 votes more than the quota of 4, are held by their next preferences, each paper at 0.33333.
+-- Before the first stage, nothing is tabulated. After it, each bundle is held by its first preference, at one vote. After the second stage, the bundles
+-- of candidate 1, who has 2 votes more than the quota of 4, are held by their next preferences, each paper at 0.33333.
 pub record WorkedTabulation : Type 0 where
   pub none_placed : bundles_in (harbour_after 0) ≡ []
   pub none_shown : figures_in (harbour_after 0) ≡ []

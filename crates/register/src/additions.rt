@@ -16,7 +16,7 @@ use count::{Bundles, NextStage, Placed, Stage, StoredCount, figures_of};
 use paper::Columns;
 use std::alloc::{AllocError, Global};
 
-/// Returns the bundles of a ward whose places have changed, with their new places. Returns `AllocError` if an allocation
+/// Returns a ward's bundles whose places have changed, with their new places. Returns `AllocError` if an allocation
 /// fails.
 fn moved_bundles(
     alloc: Global,
@@ -45,7 +45,7 @@ fn moved_bundles(
     Ok(moved)
 }
 
-/// Returns the figures of the latest stage of a ward. Returns `AllocError` if an allocation fails.
+/// Returns the figures of a ward's latest stage. Returns `AllocError` if an allocation fails.
 fn last_figures(
     alloc: Global,
     ward: u32,
@@ -54,7 +54,7 @@ fn last_figures(
 ) -> Result<Vec<StageFigure>, AllocError>
     ensures { IfOk result (λ figures. map figure_entry figures.items ≡ last_figures ward candidates.now stages.now) }
 {
-    // more stages than a `u32` can count can't fit into memory
+    // memory can't hold more stages than a `u32` can count
     let Ok(stage) = u32::try_from(stages.len()) else {
         return Err(AllocError);
     };
@@ -108,8 +108,9 @@ fn later_addition(
     })
 }
 
-/// Returns what the next stage of a ward's count adds: the stage's figures; and at the first stage all bundles, at a later
-/// stage those whose places have changed. Empty if no action is due. Returns `AllocError` if an allocation fails.
+/// Returns what the next stage of a ward's count adds: the stage's figures and, at the first stage, all bundles, or at a
+/// later stage, the bundles whose places have changed. Empty if no action is due. Returns `AllocError` if an allocation
+/// fails.
 pub(crate) fn addition_of(alloc: Global, ward: u32, count: &Count) -> Result<Addition, AllocError>
     ensures { IfOk result (λ addition. IsAddedTo ward count.now addition) }
 {

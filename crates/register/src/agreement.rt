@@ -1,4 +1,4 @@
-//! The keyings of a batch's papers: a batch is taken if two of them agree.
+//! The keyings of a batch's papers: a batch is taken once two of them agree.
 
 ghost use Rattle.std.specs.Prelude.{◌≡◌, ℕ, length, map, option_map};
 ghost use Rattle.std.specs.List.{filter};
@@ -35,8 +35,8 @@ fn same_marks(first: &[KeyedPaper], second: &[KeyedPaper]) -> bool
 }
 
 #[tactic(auto, using(crate::proofs::AgreedLemmas::agreed_three))]
-/// Returns the first of three clerks' keyings of a round, ordered by clerk number, that equals a later one: the agreed papers of
-/// the batch. A missing keying is empty; if no two keyings are equal, the result is empty as well.
+/// Returns the first of three clerks' keyings in a round, ordered by clerk number, that equals a later one: the agreed papers of
+/// the batch. A missing keying is empty; if no two keyings are equal, the result is empty, too.
 pub fn agreed<'a>(
     first: &'a [KeyedPaper],
     second: &'a [KeyedPaper],
@@ -53,7 +53,7 @@ pub fn agreed<'a>(
     &[]
 }
 
-/// Returns whether a batch is taken, given the keyings of its current round: at least two of them exist and are equal.
+/// Returns whether a batch is taken, given the keyings of its current round: at least two keyings exist and are equal.
 pub fn are_taken(first: &[KeyedPaper], second: &[KeyedPaper], third: &[KeyedPaper]) -> bool
     ensures { result ≡ are_taken (of_three (map keyed_entry first.now) (map keyed_entry second.now) (map keyed_entry third.now)) }
 {
@@ -82,7 +82,7 @@ pub struct Clerks {
     pub third: Option<u32>,
 }
 
-/// Returns the clerks who key a batch: its two clerks, and the third one if assigned.
+/// Returns the clerks who key a batch: its two clerks, and the third clerk if one is assigned.
 pub fn clerks_of(batch: &Batch, third: &Option<ThirdClerk>) -> Clerks
     ensures { clerk_list result ≡ clerks (batch_entry batch.now) (option_map third_entry third.now) }
 {
@@ -115,8 +115,8 @@ pub fn clerks_of(batch: &Batch, third: &Option<ThirdClerk>) -> Clerks
     }
 }
 
-/// The law of a batch's keyings, for callers: in each round, the keyings of the batch's clerks, one by one, are the keyings of the
-/// batch.
+/// The law of a batch's keyings, for use by callers: in each round, the keyings of the batch's clerks, taken one by one, are the
+/// keyings of the batch.
 pub fn keyings_are_by_clerks()
     ensures { (s : OfficeState) (b : BatchEntry) (round : ℕ) (c : Clerks) → clerk_list c ≡ clerks_of s b
         → of_three (keying_of s b.number round c.first) (keying_of s b.number round c.second) (keying_by s b.number round c.third) ≡ keyings_in s b round }
@@ -140,7 +140,7 @@ pub fn is_doubtful(keyed: &KeyedPaper) -> bool
     keyed.marks.as_str() == "D"
 }
 
-/// Returns whether a keying has a doubtful paper with this number.
+/// Returns whether a keying has a doubtful paper with the given number.
 pub fn has_doubtful(keying: &[KeyedPaper], paper: u32) -> bool
     ensures { result ≡ has_doubtful (map keyed_entry keying.now) paper }
 {
@@ -152,7 +152,7 @@ pub fn has_doubtful(keying: &[KeyedPaper], paper: u32) -> bool
     false
 }
 
-/// Returns whether any of these verdicts is for the paper with this number.
+/// Returns whether any of the given verdicts is on the paper with the given number.
 fn has_verdict(verdicts: &[JudgedPaper], paper: u32) -> bool
     ensures { result ≡ has_verdict (map judged_entry verdicts.now) paper }
 {
@@ -164,7 +164,7 @@ fn has_verdict(verdicts: &[JudgedPaper], paper: u32) -> bool
     false
 }
 
-/// Returns how many papers of a keying are doubtful and have no verdict in this list.
+/// Returns how many papers of a keying are doubtful and have no verdict in the given list.
 pub fn count_open(keying: &[KeyedPaper], verdicts: &[JudgedPaper]) -> usize
     ensures { result ≡ length (filter (is_open (map judged_entry verdicts.now)) (map keyed_entry keying.now)) }
 {

@@ -19,8 +19,8 @@ use crate::view::CommandInput;
 use crate::wards::is_in_phase;
 use std::alloc::{AllocError, Global};
 
-/// A batch of ballot papers. Its number (1 to 9999) is unique across all wards. It has its ward (1 to 99), its number of papers
-/// (1 to 500), the two clerks (1 to 999) assigned to key it, and its current round (1 to 99).
+/// A batch of ballot papers. Its number (1 to 9999) is unique across all wards. It also has its ward (1 to 99), its number of
+/// papers (1 to 500), the two clerks (1 to 999) assigned to key it, and its current round (1 to 99).
 #[derive(PartialEq, Drop)]
 pub struct Batch {
     pub number: u32,
@@ -31,7 +31,7 @@ pub struct Batch {
     pub round: u32,
 }
 
-/// A third clerk (1 to 999), who keys a batch (1 to 9999) in its current round and in later ones.
+/// A third clerk (1 to 999), who keys a batch (1 to 9999) in its current round and in later rounds.
 #[derive(PartialEq, Drop)]
 pub struct ThirdClerk {
     pub batch: u32,
@@ -41,7 +41,7 @@ pub struct ThirdClerk {
 /// The office's commands for batches.
 #[derive(Debug, Drop)]
 pub enum BatchCommand {
-    /// Assigns a batch of `size` papers of this ward to two clerks. The batch is in its first round.
+    /// Assigns a batch of `size` papers in this ward to two clerks. The batch starts in its first round.
     Add {
         batch: u32,
         ward: u32,
@@ -53,7 +53,8 @@ pub enum BatchCommand {
     Again {
         batch: u32,
     },
-    /// Assigns a batch whose keyings differ to a third clerk as well. The batch is taken as soon as any two keyings agree.
+    /// Assigns a batch whose keyings differ to a third clerk, in addition to its two clerks. The batch is taken as soon as any
+    /// two keyings agree.
     Third {
         batch: u32,
         clerk: u32,
@@ -128,7 +129,7 @@ fn third_objection(clerk: u32, part: &CommandInput) -> Option<Reason>
     None
 }
 
-/// Returns the objection to a command; if there are several, the one with the lowest number.
+/// Returns the objection to a command or, if there are several, the one with the lowest number.
 pub(crate) fn objection_to(
     actor: u32,
     command: &BatchCommand,
@@ -175,7 +176,7 @@ pub(crate) fn objection_to(
     }
 }
 
-/// Returns the round after the current one, capped at the last round.
+/// Returns the round after the current one, but at most the last round.
 fn next_round(batch: &Option<Batch>) -> u32
     ensures { result ≡ next_round (option_map batch_entry batch.now) }
 {
@@ -187,7 +188,7 @@ fn next_round(batch: &Option<Batch>) -> u32
 }
 
 #[tactic(auto, unfolding(crate::specs::Batches::subject_of))]
-/// Returns the subject of a command's receipt.
+/// Returns the subject of the receipt for a command.
 pub(crate) fn subject_of(alloc: Global, command: &BatchCommand) -> Result<String, AllocError>
     ensures { IfOk result (λ text. string_bytes text ≡ subject_of command.now) }
 {
@@ -199,7 +200,7 @@ pub(crate) fn subject_of(alloc: Global, command: &BatchCommand) -> Result<String
 }
 
 #[tactic(auto, unfolding(crate::specs::Batches::reply_to))]
-/// Returns the reply to an accepted command. For a batch to be keyed again, the reply includes the new round.
+/// Returns the reply to an accepted command. If the command reopens a batch, the reply includes the new round.
 pub(crate) fn reply_to(
     alloc: Global,
     command: &BatchCommand,
@@ -219,7 +220,7 @@ pub(crate) fn reply_to(
     }
 }
 
-/// Returns the effect of a command on the state. A new batch is in its first round.
+/// Returns the effect of a command on the state. A new batch starts in its first round.
 pub(crate) fn effect_of(command: &BatchCommand, part: &CommandInput) -> Effect
     ensures { effect_entry result ≡ effect_of command.now (input_entries part.now) }
 {

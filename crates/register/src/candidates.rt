@@ -15,7 +15,7 @@ use crate::view::CommandInput;
 use crate::wards::phase_objection;
 use std::alloc::{AllocError, Global};
 
-/// A candidate: the ward (1 to 99), the candidate's number in the ward (1 to 30), and the name.
+/// A candidate: the ward (1 to 99), the candidate's number in that ward (1 to 30), and the name.
 #[derive(PartialEq, Drop)]
 pub struct Candidate {
     pub ward: u32,
@@ -62,7 +62,7 @@ fn is_in_range(actor: u32, command: &CandidateCommand) -> bool
     }
 }
 
-/// Returns the objection to a command; if there are several, the one with the lowest number.
+/// Returns the objection to a command or, if there are several, the one with the lowest number.
 pub(crate) fn objection_to(
     actor: u32,
     command: &CandidateCommand,
@@ -99,7 +99,7 @@ pub(crate) fn objection_to(
 }
 
 #[tactic(auto, unfolding(crate::specs::Candidates::subject_of))]
-/// Returns the subject of a command's receipt.
+/// Returns the subject of the receipt for a command.
 pub(crate) fn subject_of(alloc: Global, command: &CandidateCommand) -> Result<String, AllocError>
     ensures { IfOk result (λ text. string_bytes text ≡ subject_of command.now) }
 {

@@ -9,7 +9,7 @@ use crate::keyings::KeyingCommand;
 use crate::verdicts::{Verdict, VerdictCommand};
 use crate::wards::WardCommand;
 
-/// What an actor asks of the office, by subject. The numbers are exactly as the actor sent them, so they may
+/// What an actor asks the office to do, by subject. The numbers are exactly as the actor sent them, so they may
 /// be out of range.
 #[derive(Debug, Drop)]
 pub enum Command {
@@ -74,7 +74,7 @@ impl Command {
         })
     }
 
-    /// Returns the command that records a clerk's keying of a batch: one marks text per paper.
+    /// Returns the command that records a clerk's keying of a batch, with one marks text per paper.
     pub fn key(batch: u32, round: u32, papers: Vec<String>) -> Command
         ensures { result ≡ Command.Keying (record { batch = batch; round = round; papers = papers }) }
     {
@@ -117,7 +117,7 @@ impl Command {
         Command::Count(CountCommand::Seal { ward })
     }
 
-    /// Returns the command that counts the next stage.
+    /// Returns the command that counts the next stage of a ward.
     pub fn advance(ward: u32) -> Command
         ensures { result ≡ Command.Count (CountCommand.Advance ward) }
     {
@@ -143,7 +143,7 @@ impl Command {
     }
 }
 
-/// A command, with its actor (0 for the office, 1 to 999 for a clerk) and its id.
+/// A command, with the actor who sends it (0 for the office, 1 to 999 for a clerk) and its id.
 #[derive(Debug, Drop)]
 pub struct Request {
     pub actor: u32,

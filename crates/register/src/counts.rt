@@ -26,8 +26,8 @@ use count::Due;
 use paper::Columns;
 use std::alloc::{AllocError, Global};
 
-/// A drawn lot: the ward (1 to 99), the stage of its count (2 to 31), and the candidate drawn (1 to 30), whose surplus is
-/// transferred next or who is excluded.
+/// A drawn lot: the ward (1 to 99), the stage of the ward's count (2 to 31), and the candidate drawn (1 to 30), whose surplus
+/// is transferred next or who is excluded.
 #[derive(PartialEq, Drop)]
 pub struct DrawnLot {
     pub ward: u32,
@@ -38,7 +38,7 @@ pub struct DrawnLot {
 /// The office's commands for the count of a ward.
 #[derive(Debug, Drop)]
 pub enum CountCommand {
-    /// Seals the ward: all papers are keyed and judged, and the count can begin.
+    /// Seals the ward: all papers have been keyed and judged, and the count can begin.
     Seal {
         ward: u32,
     },
@@ -98,7 +98,7 @@ fn has_finished(due: &Option<Due>) -> bool
     }
 }
 
-/// Returns the objection to counting a stage while the count is waiting for a lot.
+/// Returns the objection to counting a stage if the count is waiting for a lot.
 fn lot_objection(due: &Option<Due>) -> Option<Reason>
     ensures { result ≡ lot_objection due.now }
 {
@@ -111,7 +111,7 @@ fn lot_objection(due: &Option<Due>) -> Option<Reason>
     }
 }
 
-/// Returns whether the count is waiting for a lot at this stage.
+/// Returns whether the count is waiting for a lot at the given stage.
 fn waits_at(stage: u32, due: &Option<Due>) -> bool
     ensures { result ≡ waits_at stage due.now }
 {
@@ -133,7 +133,7 @@ fn is_one_of(candidate: u32, columns: &Columns) -> bool
     false
 }
 
-/// Returns whether the count is waiting for a lot and a candidate is one of those tied.
+/// Returns whether the count is waiting for a lot and the given candidate is one of those tied.
 fn is_among(candidate: u32, due: &Option<Due>) -> bool
     ensures { result ≡ is_among candidate due.now }
 {
@@ -155,7 +155,7 @@ fn phase_for(command: &CountCommand) -> Phase
     }
 }
 
-/// Returns the objection to a command, given that its numbers are in range and its ward is in the right phase.
+/// Returns the objection to a command, given that its numbers are in range and its ward is in the required phase.
 fn own_objection_to(command: &CountCommand, part: &CommandInput) -> Option<Reason>
     ensures { result ≡ first_reason (own_objections command.now (input_entries part.now)) }
 {
@@ -197,7 +197,7 @@ fn own_objection_to(command: &CountCommand, part: &CommandInput) -> Option<Reaso
     }
 }
 
-/// Returns the objection to a command; if there are several, the one with the lowest number.
+/// Returns the objection to a command or, if there are several, the one with the lowest number.
 pub(crate) fn objection_to(
     actor: u32,
     command: &CountCommand,
@@ -215,7 +215,7 @@ pub(crate) fn objection_to(
 }
 
 #[tactic(auto, unfolding(crate::specs::Counts::subject_of))]
-/// Returns the subject of a command's receipt.
+/// Returns the subject of the receipt for a command.
 pub(crate) fn subject_of(alloc: Global, command: &CountCommand) -> Result<String, AllocError>
     ensures { IfOk result (λ text. string_bytes text ≡ subject_of command.now) }
 {
@@ -227,7 +227,7 @@ pub(crate) fn subject_of(alloc: Global, command: &CountCommand) -> Result<String
     }
 }
 
-/// Returns the number of the stage (1 to 31) after `done` stages (0 to 31), capped at the last stage that a count can have.
+/// Returns the number of the stage (1 to 31) after `done` stages (0 to 31), but at most the last stage that a count can have.
 pub fn stage_after(done: u32) -> u32
     ensures { result ≡ stage_after done }
 {
@@ -238,7 +238,7 @@ pub fn stage_after(done: u32) -> u32
     }
 }
 
-/// Returns the number of the stage after those done in a ward.
+/// Returns the number of the stage that follows the completed stages of a ward.
 fn next_stage(ward: &Option<Ward>) -> u32
     ensures { result ≡ next_stage (option_map ward_entry ward.now) }
 {
@@ -248,7 +248,7 @@ fn next_stage(ward: &Option<Ward>) -> u32
     }
 }
 
-/// Returns how many papers are rejected, with any of the five codes.
+/// Returns the total number of papers rejected, with any of the five codes.
 fn all_rejected(poll: &PollTally) -> u64
     ensures { result ≡ all_rejected poll.now.rejected }
 {
@@ -257,7 +257,7 @@ fn all_rejected(poll: &PollTally) -> u64
     u64::from(first) + (u64::from(second) + others)
 }
 
-/// Returns the part of a reply that states the poll.
+/// Returns the part of a reply that reports the poll.
 fn poll_told(alloc: Global, poll: &Option<PollTally>) -> Result<String, AllocError>
     ensures { IfOk result (λ text. string_bytes text ≡ poll_told (option_map poll_entry poll.now)) }
 {
@@ -270,7 +270,7 @@ fn poll_told(alloc: Global, poll: &Option<PollTally>) -> Result<String, AllocErr
     }
 }
 
-/// Returns the part of a reply that states the next action.
+/// Returns the part of a reply that reports the next action.
 fn action_told(alloc: Global, due: &Option<Due>) -> Result<String, AllocError>
     ensures { IfOk result (λ text. string_bytes text ≡ action_told due.now) }
 {
@@ -281,8 +281,8 @@ fn action_told(alloc: Global, due: &Option<Due>) -> Result<String, AllocError>
 }
 
 #[tactic(auto, unfolding(crate::specs::Counts::reply_to))]
-/// Returns the reply to an accepted command: the poll of the sealed ward, the stage counted, the lot, or the candidates
-/// elected.
+/// Returns the reply to an accepted command, which reports the poll of the sealed ward, the stage counted, the lot, or the
+/// candidates elected.
 pub(crate) fn reply_to(
     alloc: Global,
     command: &CountCommand,
@@ -312,7 +312,8 @@ pub(crate) fn reply_to(
     }
 }
 
-/// Returns the effect of a command on the state: a ward enters a phase, another stage of its count is done, or a lot is drawn.
+/// Returns the effect of a command on the state: a ward enters another phase, another stage of its count is done, or a lot is
+/// drawn.
 pub(crate) fn effect_of(command: &CountCommand, part: &CommandInput) -> Effect
     ensures { effect_entry result ≡ effect_of command.now (input_entries part.now) }
 {
@@ -341,9 +342,9 @@ pub(crate) fn effect_of(command: &CountCommand, part: &CommandInput) -> Effect
     }
 }
 
-/// Returns what an accepted command adds to the tabulation: an Advance adds the next stage of the given count, any other
-/// command nothing. If a stage is due, a count is always given; if none is due, nothing is added. Returns `AllocError` if an
-/// allocation fails.
+/// Returns what an accepted command adds to the tabulation: an Advance adds the next stage of the given count; any other
+/// command adds nothing. If a stage is due, a count is always given; if no stage is due, nothing is added. Returns
+/// `AllocError` if an allocation fails.
 pub(crate) fn addition_of(
     alloc: Global,
     command: &CountCommand,

@@ -14,7 +14,7 @@ use crate::wards::Ward;
 /// A line of text, without its newline.
 pub type Reply = String;
 
-/// What an accepted command does to the state, apart from its receipt.
+/// What an accepted command does to the state, apart from the receipt.
 #[derive(Drop)]
 pub enum Effect {
     /// Adds this ward.
@@ -31,17 +31,17 @@ pub enum Effect {
     BatchReopened { batch: u32, round: u32 },
     /// Assigns this third clerk.
     ThirdSet(ThirdClerk),
-    /// Adds these keyed papers, all of one keying.
+    /// Adds these keyed papers, all from a single keying.
     PapersKeyed(Vec<KeyedPaper>),
-    /// Adds the verdict on this paper.
+    /// Adds this verdict on a paper.
     PaperJudged(JudgedPaper),
-    /// Sets the number of stages done in the count of this ward.
+    /// Sets the number of completed stages in the count of this ward.
     StageCounted { ward: u32, done: u32 },
     /// Adds this lot.
     LotDrawn(DrawnLot),
 }
 
-/// Everything that an accepted request changes. It is stored in full or not at all.
+/// Everything that an accepted request changes. It is stored either in full or not at all.
 #[derive(Drop)]
 pub struct Change {
     pub effect: Effect,
@@ -53,9 +53,9 @@ pub struct Change {
 /// The machine's response to a request.
 #[derive(Drop)]
 pub enum Decision {
-    /// The request is accepted with this change and this reply.
+    /// The request is accepted, with this change and this reply.
     Accepted(Change, Reply),
-    /// The request was accepted before: this is the original reply, and nothing changes.
+    /// The request was accepted earlier: this is the original reply, and nothing changes.
     Kept(Reply),
     /// The request is refused, and nothing changes.
     Refused(Refusal),

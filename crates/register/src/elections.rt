@@ -1,4 +1,4 @@
-//! What the count of a ward depends on: the ward, its candidates, its ballot papers, and the lots drawn.
+//! What a ward's count depends on: the ward, its candidates, its ballot papers, and the lots drawn.
 
 ghost use Rattle.std.specs.Prelude.{◌≡◌, ℕ, List, ◌&&◌, ◌+◌, ◌≤◌, true, length, map, sum_by, [], Some, IfOk, IfSome, IsSome};
 ghost use Rattle.std.specs.List.{list_all};
@@ -25,8 +25,8 @@ use paper::Columns;
 use std::alloc::{AllocError, Global};
 use votes::{MAX_SEATS, quota};
 
-/// The election in a ward: its candidates, ordered by number; the ballot papers of its taken batches; and the recorded lots,
-/// ordered by stage, each as a stage (counted from 1) and the candidate drawn.
+/// The election in a ward: its candidates, ordered by number; the ballot papers in its taken batches; and the recorded lots,
+/// ordered by stage, each consisting of a stage (counted from 1) and the candidate drawn.
 #[derive(Drop)]
 pub struct Election {
     pub ward: Ward,
@@ -35,8 +35,8 @@ pub struct Election {
     pub lots: Vec<(u8, u8)>,
 }
 
-/// The count of a ward, resumed from its stored stages, with the recorded lots, ordered by stage, each as a stage (counted
-/// from 1) and the candidate drawn.
+/// A ward's count, resumed from its stored stages, with the recorded lots, ordered by stage, each consisting of a stage
+/// (counted from 1) and the candidate drawn.
 #[derive(Drop)]
 pub struct Count {
     pub kept: StoredCount,
@@ -51,7 +51,7 @@ pub struct CountedWard {
     pub count: Option<Count>,
 }
 
-/// The contents of a stage sheet: a ward with its count, and how many of its ballot papers are rejected under each code from
+/// The contents of a stage sheet: a ward with its count, and how many of its ballot papers are rejected with each code from
 /// 1 to 5.
 #[derive(Drop)]
 pub struct WardSheet {
@@ -59,17 +59,18 @@ pub struct WardSheet {
     pub rejected: [u32; REJECTIONS],
 }
 
-/// The progress of a count: what is due, given the recorded lots, and which candidates are elected after the stages done.
+/// The progress of a count: what is due, given the recorded lots, and which candidates have been elected in the completed
+/// stages.
 #[derive(Clone, Copy)]
 pub struct Progress {
     pub due: Due,
     pub elected: Columns,
 }
 
-/// The laws of an office's elections, for callers. They hold if numbers are in range, keyings are whole and entries are in
-/// key order. Then every contested ward has an election that can be counted, and no ward exceeds the limits on seats and
-/// papers. In a state, once every batch of a ward is settled, its valid and rejected papers together make up all the
-/// papers of its batches.
+/// The laws of an office's elections, for use by callers. They hold if numbers are in range, keyings are complete and entries
+/// are in key order. Then every contested ward has an election that can be counted, and no ward exceeds the limits on seats
+/// and papers. In a state, once every batch of a ward is settled, the ward's valid and rejected papers together make up all
+/// the papers in its batches.
 pub fn elections_are_fair()
     ensures fair { (s : OfficeState) (w : WardEntry) → all_in_range s ≡ true → all_keyed s ≡ true → MapsAreSorted s → ward_at s w.number ≡ Some w
         → is_contested w (candidates_of s w.number) ≡ true → IsContest (contest_of (election_of s w)) }
@@ -79,14 +80,14 @@ pub fn elections_are_fair()
         → length (election_of s w).ballots.papers + all_rejected (election_of s w).ballots.rejected ≡ sum_by (λ b. b.size) (batches_of s w.number) }
 {}
 
-/// The law of the papers of a ward in count: they consist of one settled keying per batch. In a state, every batch of such a
-/// ward is settled. If two clerks key a batch, the keying used is that of the clerk with the lower number.
+/// The law of the papers in a ward that is in count: they consist of one settled keying per batch. In a state, every batch
+/// of such a ward is settled. If only two clerks key a batch, the keying used is that of the clerk with the lower number.
 pub fn settled_papers_suffice()
     ensures { (s : OfficeState) (w : WardEntry) (columns : List ℕ) → IsState s → ward_at s w.number ≡ Some w → is_in_count (election_of s w) ≡ true
         → ballots_in columns (piles_of s w.number) ≡ ballots_by (settled_judgements s columns (batches_of s w.number)) }
 {}
 
-/// Returns whether a ward with these candidates is in count: the ward has been sealed, and its election is contested.
+/// Returns whether a ward with the given candidates is in count: it has been sealed, and its election is contested.
 pub fn is_in_count(ward: &Ward, candidates: &[Candidate]) -> bool
     ensures { result ≡ (is_counted ward.now.phase && is_contested (ward_entry ward.now) (map candidate_entry candidates.now)) }
 {
@@ -97,8 +98,8 @@ pub fn is_in_count(ward: &Ward, candidates: &[Candidate]) -> bool
 }
 
 #[tactic(auto, unfolding(crate::specs::StateConditions::is_lot))]
-/// Returns a lot in the form that the count uses: its stage, counted from 1, and its candidate. Returns `None` if a number
-/// is out of range, which never happens in an office.
+/// Returns a lot in the form used by the count: its stage, counted from 1, and its candidate. Returns `None` if a number is
+/// out of range, which never happens in an office.
 fn lot_pair(lot: &DrawnLot) -> Option<(u8, u8)>
     ensures is { IfSome result (λ pair. pair ≡ lot_pair (lot_entry lot.now)) }
     ensures some { is_lot (lot_entry lot.now) ≡ true → IsSome result }
@@ -109,7 +110,7 @@ fn lot_pair(lot: &DrawnLot) -> Option<(u8, u8)>
     None
 }
 
-/// Returns lots in the form that the count uses, in the same order. Returns `None` if a number is out of range, which never
+/// Returns lots in the form used by the count, in the same order. Returns `None` if a number is out of range, which never
 /// happens in an office. Returns `AllocError` if an allocation fails.
 pub fn lot_pairs(alloc: Global, lots: &[DrawnLot]) -> Result<Option<Vec<(u8, u8)>>, AllocError>
     ensures is { IfOk result (λ found. IfSome found (λ pairs. pairs.items ≡ map lot_pair (map lot_entry lots.now))) }
@@ -125,8 +126,8 @@ pub fn lot_pairs(alloc: Global, lots: &[DrawnLot]) -> Result<Option<Vec<(u8, u8)
     Ok(Some(pairs))
 }
 
-/// Returns a new book of these bundles if they form a contest that can be counted; the bundles of every contested ward of an
-/// office do. Returns `AllocError` if an allocation fails.
+/// Returns a new book of the given bundles if they form a contest that can be counted; the bundles of every contested ward
+/// of an office do. Returns `AllocError` if an allocation fails.
 pub fn book_of<'a>(
     alloc: Global,
     columns: Columns,
@@ -167,7 +168,7 @@ impl Count {
 }
 
 impl Election {
-    /// Returns the poll of the ward, or `None` if its number of seats is 0 or above the limit, which never happens in an
+    /// Returns the poll of the ward, or `None` if its number of seats is 0 or exceeds the limit, which never happens in an
     /// office. Allocates nothing.
     pub fn poll(&self) -> Option<PollTally>
         ensures is { IfSome result (λ poll. (e : ElectionEntry) → IsElection self.now e → poll_entry poll ≡ poll_of e.ward.seats e.ballots) }
@@ -185,8 +186,8 @@ impl Election {
         })
     }
 
-    /// Returns the ward with its count at the start, with no stage done, and how many of its papers are rejected. Returns
-    /// `None` if its number of seats is above the limit, which never happens in an office. Returns `AllocError` if an
+    /// Returns the ward with its count at the start, with no completed stages, and how many of its papers are rejected.
+    /// Returns `None` if its number of seats exceeds the limit, which never happens in an office. Returns `AllocError` if an
     /// allocation fails.
     pub fn begin(self, alloc: Global) -> Result<Option<WardSheet>, AllocError>
         ensures same { IfOk result (λ found. IfSome found (λ begun. (begun.counted.ward ≡ self.ward) × (begun.counted.candidates ≡ self.candidates))) }

@@ -19,8 +19,8 @@ use crate::view::CommandInput;
 use crate::wards::is_in_phase;
 use std::alloc::{AllocError, Global};
 
-/// A ballot paper as keyed by a clerk (1 to 999): its batch (1 to 9999), the round (1 to 99), its number in the batch (1 to
-/// 500), and its marks text.
+/// A ballot paper as keyed by a clerk (1 to 999): its batch (1 to 9999), the round (1 to 99), its number within the batch
+/// (1 to 500), and its marks text.
 #[derive(PartialEq, Drop)]
 pub struct KeyedPaper {
     pub batch: u32,
@@ -30,7 +30,7 @@ pub struct KeyedPaper {
     pub marks: String,
 }
 
-/// The command that clerks send: record a keying of a batch in a round, with one marks text per paper, in paper order.
+/// The clerks' only command: it records a keying of a batch in a round, with one marks text per paper, in paper order.
 #[derive(Debug, Drop)]
 pub struct KeyingCommand {
     pub batch: u32,
@@ -47,7 +47,7 @@ fn is_in_range(actor: u32, command: &KeyingCommand) -> bool
     clerk & (number & is_round(command.round))
 }
 
-/// Returns whether a clerk is the third clerk, if one is assigned.
+/// Returns whether a clerk is the third clerk of a batch that has one.
 pub fn is_third_clerk(clerk: u32, third: &Option<ThirdClerk>) -> bool
     ensures { result ≡ is_third_clerk clerk (option_map third_entry third.now) }
 {
@@ -57,14 +57,14 @@ pub fn is_third_clerk(clerk: u32, third: &Option<ThirdClerk>) -> bool
     }
 }
 
-/// Returns whether a clerk is assigned to a batch, as one of its two clerks or as its third.
+/// Returns whether a clerk is assigned to a batch, as one of its two clerks or as its third clerk.
 pub fn is_its_clerk(clerk: u32, batch: &Batch, third: &Option<ThirdClerk>) -> bool
     ensures { result ≡ is_its_clerk clerk (batch_entry batch.now) (option_map third_entry third.now) }
 {
     clerk == batch.first_clerk || clerk == batch.second_clerk || is_third_clerk(clerk, third)
 }
 
-/// Returns the objection to the command; if there are several, the one with the lowest number.
+/// Returns the objection to the command or, if there are several, the one with the lowest number.
 pub(crate) fn objection_to(
     actor: u32,
     command: &KeyingCommand,
@@ -98,7 +98,7 @@ pub(crate) fn objection_to(
 }
 
 #[tactic(auto, unfolding(crate::specs::Keyings::subject_of))]
-/// Returns the subject of the command's receipt.
+/// Returns the subject of the receipt for the command.
 pub(crate) fn subject_of(alloc: Global, command: &KeyingCommand) -> Result<String, AllocError>
     ensures { IfOk result (λ text. string_bytes text ≡ subject_of command.now) }
 {
@@ -107,7 +107,7 @@ pub(crate) fn subject_of(alloc: Global, command: &KeyingCommand) -> Result<Strin
 }
 
 #[tactic(auto, unfolding(crate::specs::Keyings::reply_to))]
-/// Returns the reply to an accepted command. It doesn't depend on what other clerks keyed.
+/// Returns the reply to an accepted command. It doesn't depend on what other clerks have keyed.
 pub(crate) fn reply_to(alloc: Global, command: &KeyingCommand) -> Result<String, AllocError>
     ensures { IfOk result (λ text. string_bytes text ≡ reply_to command.now) }
 {

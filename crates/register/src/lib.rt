@@ -1,16 +1,17 @@
 //! The abstract machine of the office: how each request changes its state.
 //!
-//! A request consists of an actor, an id and a `Command`. The machine decides it from a `View`: the receipt, and the part of
-//! the state that the request needs. The result is a `Decision`: the request is accepted, with a `Change` and a reply; kept,
-//! because it was accepted before under the same id; or refused, for one specific reason. Nothing here touches a store.
+//! A request consists of an actor, an id and a `Command`. The machine decides a request based on a `View`: the receipt, and
+//! the part of the state that the request needs. The result is a `Decision`: the request is accepted, with a `Change` and a
+//! reply; kept, because it was accepted earlier with the same id; or refused, for one specific reason. Nothing here accesses
+//! a store.
 //!
 //! ```text
 //! let decision = decide(alloc, &view, &command)?;
 //! ```
 //!
-//! `specs/Machine.antt` defines the machine itself, on the maps of `specs/Offices.antt`. Each subject has its own file, both
-//! here and in `specs/`, with the part of the state that its commands need, their objections, subjects, replies and effects.
-//! The machine only dispatches on the subject.
+//! `specs/Machine.antt` defines the machine itself, on the maps defined in `specs/Offices.antt`. Each subject has its own
+//! file, both here and in `specs/`, with the part of the state that its commands need, and with their objections, subjects,
+//! replies and effects. The machine only dispatches on the subject.
 #![tactic(auto)]
 
 // Input.
@@ -25,7 +26,7 @@ pub mod decision;
 pub mod refusal;
 // Ranges of numbers and texts.
 pub mod ranges;
-// How marks are read, and when a batch is taken.
+// How marks are read, and when a batch counts as taken.
 pub mod agreement;
 pub mod marks;
 // The progress of a ward, its poll, and what its count depends on.
@@ -33,7 +34,7 @@ pub mod elections;
 pub mod next_steps;
 pub mod polls;
 pub mod status;
-// What is stored about the counts, and what a stage adds to it.
+// What is stored about the counts, and what a stage adds to that.
 mod additions;
 pub mod tabulations;
 // Lists of numbers as text.
@@ -45,7 +46,7 @@ pub mod counts;
 pub mod keyings;
 pub mod verdicts;
 pub mod wards;
-// Comparing a repeated request with what is stored about the original.
+// Comparing a repeated request with what is stored about the original one.
 pub mod repeats;
 // The machine, which dispatches on the subject.
 mod machine;

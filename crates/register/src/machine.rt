@@ -26,7 +26,7 @@ use crate::view::{CommandInput, View};
 use crate::{batches, candidates, counts, keyings, verdicts, wards};
 use std::alloc::{AllocError, Global};
 
-/// Returns the objection to a command; if there are several, the one with the lowest number.
+/// Returns the objection to a command or, if there are several, the one with the lowest number.
 fn objection_to(actor: u32, command: &Command, part: &CommandInput) -> Option<Reason>
     ensures is { result ≡ first_reason (objections actor command.now (input_entries part.now)) }
     ensures numbered { IfNone result (IsNumbered command.now) }
@@ -41,7 +41,7 @@ fn objection_to(actor: u32, command: &Command, part: &CommandInput) -> Option<Re
     }
 }
 
-/// Returns the subject of a command's receipt.
+/// Returns the subject of the receipt for a command.
 fn subject_of(alloc: Global, command: &Command) -> Result<String, AllocError>
     ensures { IfOk result (λ text. string_bytes text ≡ subject_of command.now) }
 {
@@ -89,7 +89,7 @@ fn effect_of(
     }
 }
 
-/// Returns what a command adds to the tabulation of the counts: an Advance adds its stage, any other command nothing.
+/// Returns what a command adds to the tabulation of the counts: an Advance adds its stage; any other command adds nothing.
 fn addition_of(
     alloc: Global,
     command: &Command,
@@ -107,14 +107,14 @@ fn addition_of(
     }
 }
 
-/// Returns a refusal for this reason.
+/// Returns a refusal with the given reason.
 fn refused(alloc: Global, reason: Reason) -> Result<Decision, AllocError>
     ensures { IfOk result (λ decision. decision ≡ Decision.Refused reason) }
 {
     Ok(Decision::Refused(Refusal::new(alloc, reason)?))
 }
 
-/// Accepts a command to which there is no objection; returns its change and its reply.
+/// Accepts a command to which there is no objection; returns its change and reply.
 fn accepted(
     alloc: Global,
     view: &View<'_>,
@@ -169,18 +169,18 @@ fn decided(alloc: Global, view: &View<'_>, command: &Command) -> Result<Decision
 
 /// Decides a request, given the part of the state that it needs.
 ///
-/// A bad id is refused first. If the id has a receipt, the request gets the original reply, or is refused if the receipt has
-/// a different subject. If there are several objections to a new request, it is refused for the one with the lowest number.
-/// The reply to a keying reveals nothing about another clerk's keying. An accepted Advance adds the next stage to the stages
-/// of the ward and leaves the earlier ones unchanged; an accepted Lot or Declare leaves all of them unchanged. Returns
-/// `AllocError` if an allocation fails; then nothing is decided.
+/// A bad id is refused first. If the id has a receipt, the request gets the original reply, or is refused if the receipt has a
+/// different subject. If there are several objections to a new request, it is refused because of the one with the lowest number.
+/// The reply to a keying reveals nothing about another clerk's keying. An accepted Advance adds the next stage to the ward's
+/// stages and leaves the earlier ones unchanged; an accepted Lot or Declare leaves all of them unchanged. Returns `AllocError`
+/// if an allocation fails; in that case, nothing is decided.
 ///
 /// The old tabulation of the counts and the addition of an accepted request together make up the new tabulation, up to the order
-/// of the entries. An Advance adds the figures of the next stage. At the first stage it also adds all bundles of the ward;
-/// at a later stage it adds exactly the bundles whose papers have moved. No other request adds anything.
+/// of the entries. An Advance adds the figures of the next stage. At the first stage, it also adds all bundles of the ward; at a
+/// later stage, it adds exactly the bundles whose papers have moved. No other request adds anything.
 ///
 /// The decision for a clerk, or for any actor other than the office, depends only on what that actor sees of the state: the
-/// wards and their phases, the candidates, the batches, and the actor's own keyings and receipts. A request of such an actor
+/// wards and their phases, the candidates, the batches, and the actor's own keyings and receipts. A request from such an actor
 /// doesn't change what any other clerk sees.
 pub fn decide(alloc: Global, view: &View<'_>, command: &Command) -> Result<Decision, AllocError>
     ensures on_view { IfOk result (λ decision. ruling_of decision ≡ decided_on view.now command.now) }
@@ -202,15 +202,15 @@ pub fn decide(alloc: Global, view: &View<'_>, command: &Command) -> Result<Decis
     decided(alloc, view, command)
 }
 
-/// Any list of requests leads from the empty office to a state, and from any state to a state. The accepted requests alone,
-/// in the same order, lead to the same state.
+/// Any list of requests leads from the empty office, or from any state, to a state. Processing only the
+/// accepted requests, in the same order, leads to the same state.
 pub fn lists_make_states()
     ensures from_empty { (requests : List Request) → IsState (after empty_office requests) }
     ensures from_state { (s : OfficeState) (requests : List Request) → IsState s → IsState (after s requests) }
     ensures of_accepted { (s : OfficeState) (requests : List Request) → after s (accepted_of s requests) ≡ after s requests }
 {}
 
-/// A clerk's work depends only on what the clerk sees; the only keyings it depends on are the clerk's own.
+/// A clerk's work depends only on what the clerk sees; the only keyings that affect it are the clerk's own.
 pub fn work_is_seen()
     ensures { (s : OfficeState) (clerk : ℕ) → work_of (seen_by clerk s) clerk ≡ work_of s clerk }
 {}
@@ -220,10 +220,10 @@ pub fn paper_is_seen()
     ensures { (s : OfficeState) (clerk batch : ℕ) → paper_at (seen_by clerk s) clerk batch ≡ paper_at s clerk batch }
 {}
 
-/// An example office, worked out by hand, request by request from the empty office: each reply, and the state that follows.
-/// A ward is added once. Three candidates contest its two seats, and its batches are assigned. Two clerks' keyings of a
-/// batch agree, and its doubtful paper is judged; or they differ, and the batch is keyed again, or by a third clerk as well.
-/// In a ward with as many candidates as seats, all are elected. A repeated request is compared with what the state has
+/// An example office, worked out by hand, request by request, starting with the empty office: each reply, and the resulting
+/// state. A ward is added once. Three candidates contest its two seats, and its batches are assigned. Two clerks' keyings of a
+/// batch agree, and its doubtful paper is judged; or they differ, and the batch is keyed again, or by a third clerk as well. In
+/// a ward with as many candidates as seats, all candidates are elected. A repeated request is compared with what the state has
 /// stored about the original.
 pub fn rows_are_worked()
     ensures wards { WardRows }

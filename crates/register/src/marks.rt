@@ -11,7 +11,7 @@ use crate::refusal::Reason;
 use paper::{Columns, Keyed, Marks, judge};
 
 /// Returns the columns of a ward's ballot papers: the numbers of its candidates, in ascending order. Numbers out of range,
-/// which no candidate of an office has, are left out.
+/// which no candidate in an office has, are omitted.
 pub fn columns_of(candidates: &[Candidate]) -> Columns
     ensures is { result ≡ columns_of (map candidate_entry candidates.now) }
     ensures of_a_ward { (s : OfficeState) (ward : ℕ) → IsState s → columns_of (candidates_of s ward) ≡ map (λ c. c.number) (candidates_of s ward) }
@@ -25,14 +25,14 @@ pub fn columns_of(candidates: &[Candidate]) -> Columns
     columns
 }
 
-/// Returns whether a marks text can be read with these columns.
+/// Returns whether a marks text can be read with the given columns.
 pub fn is_readable(columns: Columns, marks: &str) -> bool
     ensures { result ≡ is_readable columns marks.now }
 {
     Marks::read(marks.as_bytes(), columns).is_ok()
 }
 
-/// Returns whether a marks text can be read with these columns and makes the paper valid.
+/// Returns whether a marks text can be read with the given columns and makes the paper valid.
 pub fn is_valid(columns: Columns, marks: &str) -> bool
     ensures { result ≡ is_valid columns marks.now }
 {
@@ -66,7 +66,8 @@ pub(crate) fn marks_objection(columns: Columns, paper: u32, marks: &str) -> Opti
 }
 
 #[tactic(auto, unfolding(crate::specs::Marks::first_bad_marks))]
-/// Returns the objection to the marks on papers, numbered from 1: it names the first paper whose marks can't be read.
+/// Returns the objection to the marks on papers that are numbered from 1. It names the first paper whose marks can't be
+/// read.
 pub(crate) fn first_bad_marks(columns: Columns, papers: &[String]) -> Option<Reason>
     requires { length papers.now < 2 ^ 32 }
     ensures { result ≡ first_bad_marks columns 1 (map string_bytes papers.now) }

@@ -13,7 +13,7 @@ pub enum Phase {
 }
 
 impl Phase {
-    /// Returns the number of the phase, from 1 to 4 in the order in which a ward goes through them.
+    /// Returns the number of the phase, from 1 to 4, in the order in which a ward goes through the phases.
     pub fn number(self) -> u32
         ensures { result ≡ phase_number self }
     {
@@ -25,7 +25,7 @@ impl Phase {
         }
     }
 
-    /// Returns the phase with this number, or `None` if the number isn't 1 to 4.
+    /// Returns the phase with the given number, or `None` if the number isn't between 1 and 4.
     pub fn from_number(n: u32) -> Option<Phase>
         ensures found { IfSome result (λ phase. phase_number phase ≡ n) }
         ensures none { IfNone result ((phase : Phase) → phase_number phase ≢ n) }

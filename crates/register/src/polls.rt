@@ -17,7 +17,7 @@ use paper::{Columns, Keyed, Marked, Marks, Prefs, judge};
 use std::alloc::{AllocError, Global};
 use votes::{MAX_PAPERS, Votes};
 
-/// The number of rejection codes; codes run from 1 to this number.
+/// The number of rejection codes; the codes run from 1 to this number.
 pub const REJECTIONS: usize = 5;
 
 /// The judgement on a keyed ballot paper.
@@ -25,25 +25,25 @@ pub const REJECTIONS: usize = 5;
 pub enum Judgement {
     /// Valid, with these preferences.
     Valid(Prefs),
-    /// Rejected, with this code: 1 no first preference, 2 more than one, 3 no official mark, 4 voter identifiable, 5 void
-    /// for uncertainty.
+    /// Rejected, with this code: 1 for no first preference, 2 for more than one, 3 for no official mark, 4 for voter identifiable,
+    /// 5 for void for uncertainty.
     Rejected(u32),
     /// Awaiting a verdict.
     Open,
 }
 
-/// A collection of the preferences of valid papers, filled one paper at a time.
+/// A collection of valid papers' preferences, filled one paper at a time.
 pub trait KeepsPapers {
-    // The collection contains these papers, added in this order.
+    // The collection contains the given papers, added in the given order.
     ghost holds: { Self → List (List ℕ) → Type 0 };
 
-    /// Adds a paper. Returns `AllocError` if an allocation fails or there would be more papers than the `MAX_PAPERS` that an office
-    /// can have; after that, the papers added before can't be relied on.
+    /// Adds a paper. Returns `AllocError` if an allocation fails or the number of papers would exceed `MAX_PAPERS`, the most an
+    /// office can have; after that, the papers added earlier can't be relied on.
     fn keep(&mut self, paper: Prefs) -> Result<(), AllocError>
         ensures { IfOk result (λ _. (papers : List (List ℕ)) → holds self.old papers → holds self.new (papers ++ paper ∷ [])) };
 }
 
-// Each paper separately, in the order in which it was added.
+// Stores each paper separately, in the order in which it was added.
 impl KeepsPapers for Vec<Prefs> {
     ghost holds = { are_listed };
 
@@ -53,7 +53,7 @@ impl KeepsPapers for Vec<Prefs> {
     }
 }
 
-// Each distinct paper once, with the number of its copies.
+// Stores each distinct paper once, with its number of copies.
 impl KeepsPapers for Bundles {
     ghost holds = { are_bundled };
 
@@ -77,8 +77,8 @@ impl KeepsPapers for NoPapers {
     }
 }
 
-/// The ballot papers of a ward's taken batches: the preferences of each valid paper, ordered by batch and number, and the number of
-/// rejected papers under each code from 1 to 5. Also records whether every batch is taken and every doubtful paper has a verdict.
+/// The ballot papers in a ward's taken batches: the preferences of each valid paper, ordered by batch and number, and the number of
+/// papers rejected with each code from 1 to 5. Also records whether every batch is taken and every doubtful paper has a verdict.
 #[derive(Drop)]
 pub struct Ballots<P> {
     pub papers: P,
@@ -86,7 +86,7 @@ pub struct Ballots<P> {
     pub settled: bool,
 }
 
-/// The totals of a ward's ballot papers: how many are valid, how many are rejected under each code from 1 to 5, and the quota
+/// The totals of a ward's ballot papers: how many are valid, how many are rejected with each code from 1 to 5, and the quota
 /// ("Quota"). Also records whether every batch is taken and every doubtful paper has a verdict.
 #[derive(Clone, Copy)]
 pub struct PollTally {
@@ -96,7 +96,7 @@ pub struct PollTally {
     pub settled: bool,
 }
 
-/// Judges a paper by its marks.
+/// Judges a paper according to its marks.
 fn by_marks(marked: &Marked) -> Judgement
     ensures { result ≡ by_rejection marked.now (rejection_of marked.now) }
 {
@@ -106,7 +106,7 @@ fn by_marks(marked: &Marked) -> Judgement
     }
 }
 
-/// Judges a paper as keyed; a doubtful one is open.
+/// Returns the judgement on a paper as it was keyed; a doubtful paper is left open.
 fn by_keyed(keyed: &Keyed) -> Judgement
     ensures { result ≡ by_reading Judgement.Open (Ok keyed.now) }
 {
@@ -116,7 +116,7 @@ fn by_keyed(keyed: &Keyed) -> Judgement
     }
 }
 
-/// Judges a paper by the marks text that it is accepted with.
+/// Judges a paper according to the marks text with which it is accepted.
 fn by_text(columns: Columns, marks: &str) -> Judgement
     ensures { result ≡ by_reading Judgement.Open (reading columns marks.now) }
 {
@@ -126,7 +126,7 @@ fn by_text(columns: Columns, marks: &str) -> Judgement
     }
 }
 
-/// Judges a paper by its verdict: by the marks that it is accepted with, or as rejected.
+/// Judges a paper according to its verdict: by the marks with which it is accepted, or as rejected.
 fn by_verdict(columns: Columns, judged: &JudgedPaper) -> Judgement
     ensures { result ≡ by_verdict columns (Some (judged_entry judged.now)) }
 {
@@ -136,7 +136,7 @@ fn by_verdict(columns: Columns, judged: &JudgedPaper) -> Judgement
     Judgement::Rejected(judged.code)
 }
 
-/// Judges the paper with this number by its verdict in this list; without a verdict the paper is open.
+/// Judges the paper with the given number according to its verdict in the given list; without a verdict, the paper is open.
 fn by_verdicts(columns: Columns, verdicts: &[JudgedPaper], paper: u32) -> Judgement
     ensures { result ≡ by_verdict columns (find (λ v. v.paper == paper) (map judged_entry verdicts.now)) }
 {
@@ -148,8 +148,8 @@ fn by_verdicts(columns: Columns, verdicts: &[JudgedPaper], paper: u32) -> Judgem
     Judgement::Open
 }
 
-/// Judges the paper with this number as keyed or, if it is doubtful, by its verdict. Only doubtful papers are looked up in the list
-/// of verdicts.
+/// Judges the paper with the given number as keyed or, if it is doubtful, according to its verdict. Only doubtful papers are looked
+/// up in the list of verdicts.
 fn by_keyed_or_verdicts(
     columns: Columns,
     verdicts: &[JudgedPaper],
@@ -164,7 +164,7 @@ fn by_keyed_or_verdicts(
     }
 }
 
-/// Judges a keyed paper: by its marks or, if it is doubtful, by its verdict.
+/// Judges a keyed paper according to its marks or, if it is doubtful, according to its verdict.
 pub fn judgement_on(columns: Columns, verdicts: &[JudgedPaper], keyed: &KeyedPaper) -> Judgement
     ensures { result ≡ judgement_on columns (map judged_entry verdicts.now) (keyed_entry keyed.now) }
 {
@@ -175,8 +175,8 @@ pub fn judgement_on(columns: Columns, verdicts: &[JudgedPaper], keyed: &KeyedPap
 }
 
 impl<P: KeepsPapers> Ballots<P> {
-    /// Returns the ballots of a ward before any batch is added, to be collected in `papers`, which must be empty. Allocates
-    /// nothing.
+    /// Returns the ballots of a ward before any batch is added. The papers will be collected in `papers`, which must be empty.
+    /// Allocates nothing.
     pub fn new(papers: P) -> Ballots<P>
         requires { P.holds papers [] }
         ensures { (columns : _) → StandFor P.holds result (ballots_in columns []) }
@@ -188,9 +188,9 @@ impl<P: KeepsPapers> Ballots<P> {
         }
     }
 
-    /// Adds the papers of a batch, given its three clerks' keyings of the current round and the verdicts on its papers. The keyings
+    /// Adds the papers of a batch, given its three clerks' keyings in the current round and the verdicts on its papers. The keyings
     /// are ordered by clerk number; a missing one is empty. A batch that isn't taken adds no papers and leaves the ward unsettled.
-    /// Returns `AllocError` if an allocation fails; after that, the papers added before can't be relied on.
+    /// Returns `AllocError` if an allocation fails; after that, the papers added earlier can't be relied on.
     pub fn add(
         &mut self,
         columns: Columns,
@@ -211,8 +211,8 @@ impl<P: KeepsPapers> Ballots<P> {
         self.count_each(columns, verdicts, papers)
     }
 
-    /// Adds one paper of a settled batch, given its keying and the verdicts on the batch's papers. Returns `AllocError` if an
-    /// allocation fails; after that, the papers added before can't be relied on.
+    /// Adds one paper of a settled batch, given how it was keyed and the verdicts on the batch's papers. Returns `AllocError` if an
+    /// allocation fails; after that, the papers added earlier can't be relied on.
     pub fn add_settled(
         &mut self,
         columns: Columns,
@@ -225,7 +225,7 @@ impl<P: KeepsPapers> Ballots<P> {
         self.count(judgement_on(columns, verdicts, keyed))
     }
 
-    /// Adds each paper of a keying to the totals, by its judgement.
+    /// Adds each paper of a keying to the totals, according to its judgement.
     fn count_each(
         &mut self,
         columns: Columns,
@@ -243,7 +243,7 @@ impl<P: KeepsPapers> Ballots<P> {
         Ok(())
     }
 
-    /// Adds a paper to the totals, by its judgement.
+    /// Adds a paper to the totals, according to its judgement.
     fn count(&mut self, judgement: Judgement) -> Result<(), AllocError>
         ensures papers { IfOk result (λ _. (papers : List (List ℕ)) → P.holds self.old.papers papers → P.holds self.new.papers (papers ++ preferences_by judgement)) }
         ensures rejected { IfOk result (λ _. self.new.rejected ≡ and_rejected self.old.rejected judgement) }
@@ -259,7 +259,7 @@ impl<P: KeepsPapers> Ballots<P> {
         }
     }
 
-    /// Adds one to the number of papers rejected with this code. The number can't overflow in an office, which has at most 9999
+    /// Increments the number of papers rejected with the given code. The number can't overflow in an office, which has at most 9999
     /// batches of 500 papers.
     fn reject(&mut self, code: u32) -> Result<(), AllocError>
         ensures papers { self.new.papers ≡ self.old.papers }

@@ -50,21 +50,21 @@ const LONGEST_ID: usize = 40;
 
 const LONGEST_REPLY: usize = 200;
 
-/// Returns whether a number is in a range, both ends included.
+/// Returns whether a number is within a range, including both ends.
 pub fn is_between(low: u32, high: u32, n: u32) -> bool
     ensures { result ≡ is_between low high n }
 {
     low <= n && n <= high
 }
 
-/// Returns whether an actor is the office itself: 0.
+/// Returns whether an actor is the office itself, which has number 0.
 pub fn is_office(actor: u32) -> bool
     ensures { result ≡ is_office actor }
 {
     actor == OFFICE
 }
 
-/// Returns whether an actor is a clerk: 1 to 999.
+/// Returns whether an actor is a clerk, with a number from 1 to 999.
 pub fn is_clerk(actor: u32) -> bool
     ensures { result ≡ is_clerk actor }
 {
@@ -78,7 +78,7 @@ pub fn is_ward_number(n: u32) -> bool
     is_between(1, LAST_WARD, n)
 }
 
-/// Returns whether a ward may have this number of seats: 1 to 15.
+/// Returns whether a ward may have the given number of seats: 1 to 15.
 pub fn is_seat_number(n: u32) -> bool
     ensures { result ≡ is_seat_number n }
 {
@@ -99,8 +99,8 @@ pub fn is_batch_number(n: u32) -> bool
     is_between(1, LAST_BATCH, n)
 }
 
-/// Returns whether a number is in the range of batch sizes, which is also that of paper numbers in a batch: 1
-/// to 500.
+/// Returns whether a number is in the range of batch sizes, which is also the range of paper numbers within a
+/// batch: 1 to 500.
 pub fn is_paper_number(n: u32) -> bool
     ensures { result ≡ is_paper_number n }
 {
@@ -160,7 +160,7 @@ pub fn is_name(text: &str) -> bool
     fits & are_name_bytes(bytes)
 }
 
-/// Returns whether a text is an id: 1 to 40 characters of `a-z`, `0-9` and `-`.
+/// Returns whether a text is an id: 1 to 40 characters from `a-z`, `0-9` and `-`.
 pub fn is_id(text: &str) -> bool
     ensures { result ≡ is_id text.now }
 {

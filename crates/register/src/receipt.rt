@@ -1,7 +1,7 @@
 //! Receipts.
 
-/// The record of an accepted request: its actor, its id, its subject, and the reply. With it, the same request gets
-/// the same reply when it is repeated.
+/// The record of an accepted request: the actor, the id, the subject, and the reply. It ensures that the same
+/// request gets the same reply when it is repeated.
 #[derive(PartialEq, Drop)]
 pub struct Receipt {
     pub actor: u32,

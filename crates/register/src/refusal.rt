@@ -11,9 +11,9 @@ use std::marker::Model;
 /// The reason for refusing a request.
 #[derive(Clone, Copy, PartialEq, Eq)]
 pub enum Reason {
-    /// The id isn't 1 to 40 characters of `a-z`, `0-9` and `-`.
+    /// The id doesn't consist of 1 to 40 characters from `a-z`, `0-9` and `-`.
     BadId,
-    /// The receipt of this actor and id has another subject.
+    /// The receipt for this actor and id has a different subject.
     IdUsed,
     /// A number is out of range, or the actor may not send this command.
     NumberOutOfRange,
@@ -43,19 +43,20 @@ pub enum Reason {
     NotThisRound,
     /// The clerk has already keyed this round.
     AlreadyKeyed,
-    /// The number of marks texts differs from the batch's number of papers.
+    /// The number of marks texts differs from the number of papers in the batch.
     WrongPaperCount,
     /// The marks text of this paper, the first invalid one, has the mark fault with this number.
     BadMarks { paper: u32, fault: u32 },
     /// The batch's current round has fewer than two keyings, or two equal ones.
     NoDifference,
-    /// No two keyings of the batch's current round are equal.
+    /// No two keyings in the batch's current round are equal.
     NotTaken,
-    /// The batch has no paper with this number that is keyed as doubtful.
+    /// The batch has no paper with this number that was keyed as doubtful.
     NotDoubtful,
     /// The paper already has a verdict.
     AlreadyJudged,
-    /// The paper is accepted as doubtful or with marks that invalidate it, or rejected with a code other than 3, 4 or 5.
+    /// The paper is accepted as doubtful or with marks that make it invalid, or rejected with a code other than 3, 4 or
+    /// 5.
     BadVerdict,
     /// A batch of the ward isn't taken, or a doubtful paper has no verdict.
     NotReady,
@@ -74,7 +75,7 @@ pub enum Reason {
 }
 
 impl Reason {
-    /// Returns the number of a reason, and its text up to the first number that the text includes.
+    /// Returns the number of a reason, and its text up to the first number that the text includes, if any.
     fn told(self) -> (u32, &'static str)
         ensures number { result.0 ≡ reason_number self }
         ensures words { result.1.now ≡ reason_words self }
@@ -131,7 +132,7 @@ impl Reason {
     }
 }
 
-/// A refusal: the reason, and its text. A refusal changes nothing and leaves no receipt.
+/// A refusal: the reason and its text. A refusal changes nothing and leaves no receipt.
 ///
 /// In contracts, a refusal is modelled as its reason.
 #[derive(Drop)]
@@ -153,7 +154,7 @@ impl Model for Refusal {
 }
 
 impl Refusal {
-    /// Returns a refusal for this reason, with its text. Returns `AllocError` if an allocation fails.
+    /// Returns a refusal with the given reason and its text. Returns `AllocError` if an allocation fails.
     pub fn new(alloc: Global, reason: Reason) -> Result<Refusal, AllocError>
         ensures { IfOk result (λ refusal. refusal ≡ reason) }
     {

@@ -1,8 +1,8 @@
-//! Compares a request that is repeated under the same id with what the state has stored about the original.
+//! Compares a repeated request, which has the same id as the original, with what the state has stored about the original.
 //!
-//! A receipt contains the id and the subject of its request, and none of its other contents. Whether a repeated request is
-//! the same is therefore determined from the entry that the original made. After a candidate has withdrawn,
-//! there is no entry left to compare with.
+//! A receipt contains only the id and the subject of its request. Whether a repeated request is identical to the original
+//! is therefore determined from the entry that the original created. Once a candidate has withdrawn, there is no entry
+//! left to compare with.
 
 ghost use Rattle.std.specs.Prelude.{◌≡◌, map, option_map, string_bytes, IfOk};
 ghost use Rattle.std.specs.List.{list_any};
@@ -21,7 +21,7 @@ use crate::verdicts::{ACCEPTED, JudgedPaper, Verdict, VerdictCommand};
 use crate::wards::Ward;
 use std::alloc::{AllocError, Global};
 
-/// Returns whether a ward exists and has this number of seats and this name.
+/// Returns whether a ward exists and has the given number of seats and the given name.
 pub fn is_ward_of(found: &Option<Ward>, seats: u32, name: &str) -> bool
     ensures { result ≡ is_there (is_ward_of seats name.now) (option_map ward_entry found.now) }
 {
@@ -41,7 +41,7 @@ pub fn has_other_name(found: &Option<Candidate>, name: &str) -> bool
     }
 }
 
-/// Returns whether any of these receipts has this subject.
+/// Returns whether any of the given receipts has the given subject.
 fn has_subject(receipts: &[Receipt], subject: &str) -> bool
     ensures { result ≡ list_any (has_subject subject.now) (map receipt_entry receipts.now) }
 {
@@ -53,8 +53,8 @@ fn has_subject(receipts: &[Receipt], subject: &str) -> bool
     false
 }
 
-/// Returns whether a candidate with this number has withdrawn from a ward, according to the returning officer's receipts.
-/// Returns `AllocError` if an allocation fails.
+/// Returns whether a candidate with the given number has withdrawn from a ward, according to the returning officer's
+/// receipts. Returns `AllocError` if an allocation fails.
 pub fn has_withdrawn(
     alloc: Global,
     receipts: &[Receipt],
@@ -67,7 +67,7 @@ pub fn has_withdrawn(
     Ok(has_subject(receipts, &subject))
 }
 
-/// Returns whether a batch exists, belongs to this ward, has this size and is assigned to these two clerks.
+/// Returns whether a batch exists, belongs to the given ward, has the given size and is assigned to the two given clerks.
 pub fn is_batch_of(
     found: &Option<Batch>,
     ward: u32,
@@ -87,7 +87,7 @@ pub fn is_batch_of(
 }
 
 #[tactic(auto, unfolding(crate::specs::Repeats::has_texts))]
-/// Returns whether a keying has exactly these marks texts, one per paper, in order.
+/// Returns whether a keying consists of exactly the given marks texts, one per paper, in order.
 pub fn has_texts(keying: &[KeyedPaper], texts: &[String]) -> bool
     ensures { result ≡ has_texts (map keyed_entry keying.now) (map string_bytes texts.now) }
 {
@@ -102,7 +102,7 @@ pub fn has_texts(keying: &[KeyedPaper], texts: &[String]) -> bool
     true
 }
 
-/// Returns whether a verdict exists and has the same code and marks as this command's verdict.
+/// Returns whether a verdict exists and has the same code and marks as the command's verdict.
 pub fn is_judged_alike(found: &Option<JudgedPaper>, command: &VerdictCommand) -> bool
     ensures { result ≡ is_there (is_judged_alike (judged_as command.now.batch command.now.paper command.now.verdict)) (option_map judged_entry found.now) }
 {
@@ -117,7 +117,7 @@ pub fn is_judged_alike(found: &Option<JudgedPaper>, command: &VerdictCommand) ->
     }
 }
 
-/// Returns whether one of these lots is for this stage and names this candidate.
+/// Returns whether one of the given lots is for the given stage and names the given candidate.
 pub fn is_drawn(lots: &[DrawnLot], stage: u32, candidate: u32) -> bool
     ensures { result ≡ list_any (is_drawn stage candidate) (map lot_entry lots.now) }
 {

@@ -21,9 +21,9 @@ use paper::{Columns, Prefs};
 use std::alloc::{AllocError, Global};
 use votes::{MAX_PAPERS, Votes};
 
-/// A bundle of equal ballot papers of a ward, with its place after the stages done. It has the preferences, one candidate's
-/// number (1 to 30) per byte, and the number of papers, at least 1. The holder is a candidate's number, or 0 for none. The value
-/// of each paper is in units.
+/// A bundle of equal ballot papers in a ward, with its place after the completed stages. It has the preferences, one candidate's
+/// number (1 to 30) per byte, and the number of papers, at least 1. The holder is a candidate's number, or 0 for none. The value of
+/// each paper is in units.
 #[derive(PartialEq, Eq, Drop)]
 pub struct PlacedBundle {
     pub ward: u32,
@@ -33,7 +33,7 @@ pub struct PlacedBundle {
     pub value: u64,
 }
 
-/// A figure of a stage of a ward's count, as in `count::Figure`.
+/// A figure from a stage of a ward's count, as in `count::Figure`.
 #[derive(Clone, Copy, PartialEq, Eq)]
 pub struct StageFigure {
     pub ward: u32,
@@ -50,8 +50,8 @@ pub struct Tabulation {
     pub figures: Vec<StageFigure>,
 }
 
-/// What an accepted request adds to the tabulation: new bundles (at a ward's first stage, all of them); bundles whose place has
-/// changed; and the figures of the new stage. Empty unless the request counts a stage.
+/// What an accepted request adds to the tabulation: new bundles (all of them at a ward's first stage), bundles whose places have
+/// changed, and the figures of the new stage. Empty unless the request counts a stage.
 #[derive(Drop)]
 pub struct Addition {
     pub placed: Vec<PlacedBundle>,
@@ -84,8 +84,8 @@ impl Tabulation {
         }
     }
 
-    /// Adds the count of a ward, as far as it is done: its bundles in their places, and the figures of its stages. Returns
-    /// `AllocError` if an allocation fails; then part of the count may have been added.
+    /// Adds the completed stages of a ward's count: its bundles in their places, and the figures of its stages. Returns `AllocError`
+    /// if an allocation fails; in that case, part of the count may already have been added.
     pub fn add(
         &mut self,
         alloc: Global,
@@ -178,7 +178,7 @@ fn add_figures(
     ensures { OnOk result (map figure_entry to.new.items ≡ map figure_entry to.old.items ++ figures_to ward candidates.now (reverse stages.now)) }
 {
     for done in 0..stages.len() {
-        // this many stages can't fit into memory
+        // memory can't hold this many stages
         let Ok(stage) = u32::try_from(done + 1) else {
             return Err(AllocError);
         };
@@ -188,10 +188,10 @@ fn add_figures(
     Ok(())
 }
 
-/// The laws of the tabulation, for callers. In a state, the bundles are ordered by ward and list, and the figures by ward, stage
-/// and candidate, without duplicates. The bundles and figures of a ward are those of its election. If a ward's count has at least
-/// one stage, the count can be read back from them. For an election worked out by hand, they are as expected: before the first stage
-/// there are none; from then on there is each bundle in its place, at its value, and the figures of each stage.
+/// The laws of the tabulation, for use by callers. In a state, the bundles are ordered by ward and list, and the figures by ward,
+/// stage and candidate, without duplicates. The bundles and figures of a ward are those of its election. If a ward's count has at
+/// least one stage, the count can be read back from them. For an election worked out by hand, they are as expected: before the first
+/// stage there are none; after it, there is each bundle in its place, at its value, and the figures of each stage.
 pub fn tabulations_are_ordered()
     ensures rise { (s : OfficeState) → IsState s → TabulationRises (tabulation_of s) }
     ensures bundles { (s : OfficeState) (w : WardEntry) → IsState s → ward_at s w.number ≡ Some w
@@ -203,8 +203,8 @@ pub fn tabulations_are_ordered()
     ensures worked { WorkedTabulation }
 {}
 
-/// Adds a bundle to others. Returns false if its list isn't one of preferences, it has no papers, or the total number of papers
-/// would exceed `MAX_PAPERS`. Returns `AllocError` if an allocation fails.
+/// Adds a bundle to the given bundles. Returns false if its list isn't a valid list of preferences, it has no papers, or the total
+/// number of papers would exceed `MAX_PAPERS`. Returns `AllocError` if an allocation fails.
 fn add_bundle(bundles: &mut Bundles, bundle: &PlacedBundle) -> Result<bool, AllocError>
     ensures ok { IfOk result (λ added. added ≡ true → bundles.new ≡ with_papers bundles.old bundle.now.list.items bundle.now.papers) }
     ensures fits { IfOk result (λ added. IsBundle (bundle_of (placed_entry bundle.now)) → length (papers_of bundles.old) + bundle.now.papers ≤ max_papers → added ≡ true) }
@@ -220,7 +220,7 @@ fn add_bundle(bundles: &mut Bundles, bundle: &PlacedBundle) -> Result<bool, Allo
     Ok(true)
 }
 
-/// Returns the bundles of a ward, or `None` if these aren't valid bundles, or have too many papers. Returns `AllocError` if an
+/// Returns the bundles of a ward, or `None` if the tabulated bundles are invalid or have too many papers. Returns `AllocError` if an
 /// allocation fails.
 fn bundles_of(alloc: Global, tabulated: &[PlacedBundle]) -> Result<Option<Bundles>, AllocError>
     ensures is { IfOk result (λ found. IfSome found (λ bundles. AreBundles (map bundle_of (map placed_entry tabulated.now)) → bundles ≡ map bundle_of (map placed_entry tabulated.now))) }
@@ -255,7 +255,7 @@ fn places_of(alloc: Global, tabulated: &[PlacedBundle]) -> Result<Option<Vec<Pla
     Ok(Some(places))
 }
 
-/// Returns the figures of a ward in the count's own form, stage by stage. Returns `AllocError` if an allocation fails.
+/// Returns the figures of a ward in the form used by the count, stage by stage. Returns `AllocError` if an allocation fails.
 fn figures_shown(alloc: Global, tabulated: &[StageFigure]) -> Result<Vec<Figure>, AllocError>
     ensures { IfOk result (λ figures. figures.items ≡ map shown_of (map figure_entry tabulated.now)) }
 {
@@ -270,8 +270,8 @@ fn figures_shown(alloc: Global, tabulated: &[StageFigure]) -> Result<Vec<Figure>
     Ok(figures)
 }
 
-/// Returns the count of a ward, as determined by its tabulated bundles and figures. Returns `None` if they don't belong to any
-/// count. Returns `AllocError` if an allocation fails.
+/// Returns the count of a ward, as determined by its tabulated bundles and figures, or `None` if they don't form a count. Returns
+/// `AllocError` if an allocation fails.
 pub fn count_of(
     alloc: Global,
     candidates: Columns,

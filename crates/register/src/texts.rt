@@ -14,7 +14,7 @@ fn put_behind(alloc: Global, text: &mut String, number: u8) -> Result<(), AllocE
     text.push_str(told.as_str())
 }
 
-/// Returns the text of these numbers, separated by a comma and a space: `1, 3`.
+/// Returns the text of the given numbers, separated by a comma and a space: `1, 3`.
 #[tactic(auto, unfolding(crate::specs::Texts::listed))]
 pub(crate) fn listed(alloc: Global, numbers: &Columns) -> Result<String, AllocError>
     ensures { IfOk result (λ text. string_bytes text ≡ listed numbers.now) }

@@ -1,4 +1,4 @@
-//! Judged papers, and the command that judges one.
+//! Judged papers, and the command that judges a paper.
 
 ghost use Rattle.std.specs.Prelude.{◌≡◌, IfOk, string_bytes};
 ghost use Rattle.register.specs.Reasons.{first_reason};
@@ -17,9 +17,9 @@ use crate::wards::is_in_phase;
 use paper::Columns;
 use std::alloc::{AllocError, Global};
 
-/// A doubtful ballot paper as judged by the returning officer: its batch (1 to 9999), its number in the batch (1 to 500),
-/// and the verdict. The verdict is either code 0 with the marks that the paper is accepted with, or a rejection code (3 to
-/// 5) without marks.
+/// A doubtful ballot paper as judged by the returning officer: its batch (1 to 9999), its number within the batch (1 to
+/// 500), and the verdict. The verdict is either code 0 with the marks with which the paper is accepted, or a rejection
+/// code (3 to 5) without marks.
 #[derive(PartialEq, Drop)]
 pub struct JudgedPaper {
     pub batch: u32,
@@ -33,11 +33,11 @@ pub struct JudgedPaper {
 pub enum Verdict {
     /// Accepted, with these marks.
     Accept(String),
-    /// Rejected with this code: 3 no official mark, 4 voter identifiable, 5 void for uncertainty.
+    /// Rejected with this code: 3 for no official mark, 4 for voter identifiable, 5 for void for uncertainty.
     Reject(u32),
 }
 
-/// The office's command for a paper of a batch: records this verdict on the paper.
+/// The office's command for a paper in a batch: records this verdict on the paper.
 #[derive(Debug, Drop)]
 pub struct VerdictCommand {
     pub batch: u32,
@@ -63,14 +63,14 @@ fn is_in_range(actor: u32, command: &VerdictCommand) -> bool
     office & (number & is_paper_number(command.paper))
 }
 
-/// Returns whether the returning officer may reject a paper with this code: 3 to 5.
+/// Returns whether the returning officer may reject a paper with the given code: 3 to 5.
 pub fn is_rejection_code(code: u32) -> bool
     ensures { result ≡ is_rejection_code code }
 {
     is_between(FIRST_REJECTION, LAST_REJECTION, code)
 }
 
-/// Returns the objection to the marks of an accepting verdict, if they can't be read.
+/// Returns the objection to the marks in an accepting verdict, if they can't be read.
 fn verdict_objection(columns: Columns, paper: u32, verdict: &Verdict) -> Option<Reason>
     ensures { result ≡ verdict_objection columns paper verdict.now }
 {
@@ -80,8 +80,8 @@ fn verdict_objection(columns: Columns, paper: u32, verdict: &Verdict) -> Option<
     }
 }
 
-/// Returns whether a verdict is permitted: an accepted paper must be valid by its marks, and a rejection must have a
-/// permitted code.
+/// Returns whether a verdict is permitted: an accepted paper must be valid according to its marks, and a rejection must
+/// have a permitted code.
 fn is_verdict(columns: Columns, verdict: &Verdict) -> bool
     ensures { result ≡ is_verdict columns verdict.now }
 {
@@ -91,7 +91,7 @@ fn is_verdict(columns: Columns, verdict: &Verdict) -> bool
     }
 }
 
-/// Returns the objection to the command; if there are several, the one with the lowest number.
+/// Returns the objection to the command or, if there are several, the one with the lowest number.
 pub(crate) fn objection_to(
     actor: u32,
     command: &VerdictCommand,
@@ -129,7 +129,7 @@ pub(crate) fn objection_to(
 }
 
 #[tactic(auto, unfolding(crate::specs::Verdicts::subject_of))]
-/// Returns the subject of the command's receipt.
+/// Returns the subject of the receipt for the command.
 pub(crate) fn subject_of(alloc: Global, command: &VerdictCommand) -> Result<String, AllocError>
     ensures { IfOk result (λ text. string_bytes text ≡ subject_of command.now) }
 {
@@ -138,7 +138,7 @@ pub(crate) fn subject_of(alloc: Global, command: &VerdictCommand) -> Result<Stri
 }
 
 #[tactic(auto, unfolding(crate::specs::Verdicts::reply_to))]
-/// Returns the reply to the accepted command, which states the verdict.
+/// Returns the reply to an accepted command, which reports the verdict.
 pub(crate) fn reply_to(alloc: Global, command: &VerdictCommand) -> Result<String, AllocError>
     ensures { IfOk result (λ text. string_bytes text ≡ reply_to command.now) }
 {
@@ -149,8 +149,8 @@ pub(crate) fn reply_to(alloc: Global, command: &VerdictCommand) -> Result<String
     }
 }
 
-/// Returns the effect of the command on the state: the paper is accepted with these marks, or rejected with this code and
-/// without marks.
+/// Returns the effect of the command on the state: the paper is either accepted with these marks, or rejected with this
+/// code and without marks.
 pub(crate) fn effect_of(alloc: Global, command: &VerdictCommand) -> Result<Effect, AllocError>
     ensures { IfOk result (λ effect. effect_entry effect ≡ effect_of command.now) }
 {

@@ -15,13 +15,13 @@ use count::Due;
 use paper::Columns;
 use std::alloc::Global;
 
-/// What a command may need of the state. Each item is present only if the command needs it and the state has it. For
-/// nominations: the ward that the command names, or whose batch it names; the candidate that it names; and the ward's
-/// candidates, ordered by number. For papers: the batch that the command names, and its third clerk; the actor's own keying
-/// of it; the keyings of its current round by its two or three clerks; and the verdict on the paper that the command names.
-/// For the count: the poll of the ward; what is due, given the recorded lots; the candidates elected after the stages done;
-/// and the count to which a stage is to be added. The keyings are ordered by clerk number, and a missing one is empty. The
-/// papers of a keying are in order.
+/// What a command may need from the state. Each item is present only if the command needs it and the state has it. For
+/// nominations: the ward that the command names, or to which the named batch belongs; the candidate that the command
+/// names; and the ward's candidates, ordered by number. For papers: the batch that the command names, and its third
+/// clerk; the actor's own keying of that batch; the keyings in its current round by its clerks, two or three; and the
+/// verdict on the named paper. For the count: the poll of the ward; what is due, given the recorded lots; the candidates
+/// elected in the completed stages; and the count to which a stage will be added. The keyings are ordered by clerk
+/// number, and a missing one is empty. The papers of a keying are in order.
 #[derive(Drop)]
 pub struct CommandInput {
     pub ward: Option<Ward>,
@@ -41,7 +41,7 @@ pub struct CommandInput {
 }
 
 impl CommandInput {
-    /// Returns an empty part, to be filled in with what a command needs. Allocates nothing.
+    /// Returns an empty part, to be filled with what a command needs. Allocates nothing.
     pub fn empty(alloc: Global) -> CommandInput
         ensures { input_entries result ≡ empty_input }
     {
@@ -64,8 +64,8 @@ impl CommandInput {
     }
 }
 
-/// What the machine sees for one request: its actor and id; the receipt of that actor and id, if there is one; and the part
-/// of the state that the command needs.
+/// What the machine sees when it decides a request: the actor and id; the receipt for that actor and id, if there is one;
+/// and the part of the state that the command needs.
 #[derive(Drop)]
 pub struct View<'a> {
     pub actor: u32,

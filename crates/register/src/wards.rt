@@ -16,8 +16,8 @@ use crate::refusal::Reason;
 use crate::view::CommandInput;
 use std::alloc::{AllocError, Global};
 
-/// A ward: its number (1 to 99), its number of seats (1 to 15), its phase, the number of stages done in its count (0 to 31), and
-/// its name.
+/// A ward: its number (1 to 99), its number of seats (1 to 15), its phase, the number of completed stages in its count (0 to 31),
+/// and its name.
 #[derive(PartialEq, Drop)]
 pub struct Ward {
     pub number: u32,
@@ -53,7 +53,7 @@ fn is_in_range(actor: u32, command: &WardCommand) -> bool
     }
 }
 
-/// Returns whether a ward exists and is in a phase.
+/// Returns whether a ward exists and is in the given phase.
 pub(crate) fn is_in_phase(phase: Phase, ward: &Option<Ward>) -> bool
     ensures { result ≡ is_in_phase phase (option_map ward_entry ward.now) }
 {
@@ -63,7 +63,7 @@ pub(crate) fn is_in_phase(phase: Phase, ward: &Option<Ward>) -> bool
     }
 }
 
-/// Returns the objection to a command that requires a ward in this phase: there is no such ward, or it is in another phase.
+/// Returns the objection to a command that requires a ward in the given phase: there is no such ward, or it is in another phase.
 pub(crate) fn phase_objection(phase: Phase, ward: &Option<Ward>) -> Option<Reason>
     ensures { result ≡ first_reason (phase_objections phase (option_map ward_entry ward.now)) }
 {
@@ -83,7 +83,7 @@ pub fn is_contested(ward: &Ward, candidates: &[Candidate]) -> bool
     (ward.seats as usize) < candidates.len()
 }
 
-/// Returns whether a ward is to be polled: it exists and is contested.
+/// Returns whether a ward requires a poll: it exists and is contested.
 fn is_to_be_polled(ward: &Option<Ward>, candidates: &[Candidate]) -> bool
     ensures { result ≡ is_to_be_polled (option_map ward_entry ward.now) (map candidate_entry candidates.now) }
 {
@@ -93,7 +93,7 @@ fn is_to_be_polled(ward: &Option<Ward>, candidates: &[Candidate]) -> bool
     }
 }
 
-/// Returns the objection to a command; if there are several, the one with the lowest number.
+/// Returns the objection to a command or, if there are several, the one with the lowest number.
 pub(crate) fn objection_to(actor: u32, command: &WardCommand, part: &CommandInput) -> Option<Reason>
     ensures { result ≡ first_reason (objections actor command.now (input_entries part.now)) }
 {
@@ -123,7 +123,7 @@ pub(crate) fn objection_to(actor: u32, command: &WardCommand, part: &CommandInpu
 }
 
 #[tactic(auto, unfolding(crate::specs::Wards::subject_of))]
-/// Returns the subject of a command's receipt.
+/// Returns the subject of the receipt for a command.
 pub(crate) fn subject_of(alloc: Global, command: &WardCommand) -> Result<String, AllocError>
     ensures { IfOk result (λ text. string_bytes text ≡ subject_of command.now) }
 {
@@ -134,7 +134,8 @@ pub(crate) fn subject_of(alloc: Global, command: &WardCommand) -> Result<String,
 }
 
 #[tactic(auto, unfolding(crate::specs::Wards::reply_to))]
-/// Returns the reply to an accepted command. For a ward whose nominations are closed, the reply says whether it is polled.
+/// Returns the reply to an accepted command. If the command closes a ward's nominations, the reply says whether the ward will be
+/// polled.
 pub(crate) fn reply_to(
     alloc: Global,
     command: &WardCommand,

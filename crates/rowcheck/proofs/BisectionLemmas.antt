@@ -1,4 +1,4 @@
--- What a bisection finds in rows in key order: exactly the rows with the key.
+-- Bisecting rows in key order finds exactly the rows with the given key.
 use Rattle.std.proofs.Common.{◌≡◌, ℕ, ◌+◌, ◌<◌, ◌≤◌, Bool, true, false, List, [], ◌∷◌, length, get_or, take, drop, filter, suc, refl, sym, ap, ◌∙◌, arith, append-nil}
 use Rattle.std.specs.List.Sorted.{IsNonDecreasingBy, IsPartitionedBy, IsPartitionPoint}
 use Rattle.std.specs.declared.cmp.Ordering.{Ordering}
@@ -7,7 +7,7 @@ use Rattle.std.specs.Ordering.{ordering_index, is_lt, is_le, is_eq}
 use Rattle.std.proofs.lemmas.List.{get_or-take, get_or-drop, take-append-drop, length-take-le, length-drop}
 use Rattle.std.proofs.lemmas.List.Elements.{filter-append}
 
--- ---- where the rows that pass a test are
+-- ---- the positions of the rows that pass a test
 
 pub lower_passes : {X : Type 0} (o : X → Ordering) (xs : List X) → IsNonDecreasingBy (λ x. ordering_index (o x)) xs → IsPartitionedBy (λ x. is_lt (o x)) xs
 lower_passes {X} o xs rises i j d low high passes = go (o (get_or xs i d)) (o (get_or xs j d)) (rises i j d low high) passes
@@ -29,7 +29,7 @@ upper_passes {X} o xs rises i j d low high passes = go (o (get_or xs i d)) (o (g
     go Greater Equal below is = absurd (omega arith)
     go Greater Less below is = absurd (omega arith)
 
--- filtering a list in which no element passes, and one in which all do
+-- filtering a list in which no element passes, and a list in which every element does
 none_pass : {X : Type 0} (p : X → Bool) (xs : List X) → ((k : ℕ) (d : X) → k < length xs → p (get_or xs k d) ≡ false) → filter p xs ≡ []
 none_pass p [] none = refl
 none_pass {X} p (x ∷ xs) none =
@@ -58,7 +58,7 @@ among Equal least most = refl
 among Greater least most = absurd (cc)
 
 module _ {X : Type 0} (o : X → Ordering) where
-  -- if no row of a part sorts before the key, the rows with the key are the first ones
+  -- if no row of the remaining part sorts before the key, the rows with the key come first
   run_in : (left : List X) (run : ℕ) → run ≤ length left → ((k : ℕ) (d : X) → k < length left → is_lt (o (get_or left k d)) ≡ false)
       → IsPartitionPoint (λ x. is_le (o x) ≡ true) (λ x. is_le (o x) ≡ false) left run
       → filter (λ x. is_eq (o x)) left ≡ take run left
@@ -76,7 +76,8 @@ module _ {X : Type 0} (o : X → Ordering) where
           let there : get_or (drop run left) k d ≡ get_or left (run + k) d = get_or-drop run left k d in
           not_above _ (ap (λ x. is_le (o x)) there ∙ upper.1 (run + k) d (omega arith) (omega (arith, length-drop run left, within, below))))
 
-  -- two bisections split off the rows before the key, and then the rows with the key from the rest
+  -- two bisections: the first skips the rows before the key, and the second splits the rows with the key from
+  -- the rest
   pub run_is : (xs : List X) (before run : ℕ) (left : List X) → before ≤ length xs → run ≤ length left → left ≡ drop before xs
       → IsPartitionPoint (λ x. is_lt (o x) ≡ true) (λ x. is_lt (o x) ≡ false) xs before → IsPartitionPoint (λ x. is_le (o x) ≡ true) (λ x. is_le (o x) ≡ false) left run
       → take run left ≡ filter (λ x. is_eq (o x)) xs

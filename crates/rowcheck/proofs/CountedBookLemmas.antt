@@ -1,5 +1,5 @@
--- What a book has counted of an election, on the bundles of its papers, is the tabulation of that election's count; and the tabulations of all wards
--- together make up the tabulation of the state.
+-- If a book has counted an election, with its papers in bundles, then its bundles and figures are the tabulation of the election's count. The
+-- tabulations of all wards together make up the tabulation of the state.
 use Rattle.std.proofs.Common.{◌≡◌, ◌≢◌, ℕ, ◌==◌, true, List, [], ◌∷◌, map, refl, sym, ap, subst, ◌∙◌, arith}
 use Rattle.std.specs.List.{flat_map}
 use Rattle.std.specs.List.Sorted.{IsPermutation}
@@ -22,7 +22,7 @@ use Rattle.rowcheck.specs.Walks.Counts.{HasCounted}
 use Rattle.rowcheck.proofs.SideBySideLemmas.{more_differs}
 use Rattle.rowcheck.proofs.StagesDoneLemmas.{map-alike}
 
--- the place of a paper doesn't depend on other papers
+-- the place of a paper doesn't depend on the order of the papers
 place_reordered : (contest : Contest) (papers : List (List ℕ)) (stages : History) (paper : List ℕ) → place (reordered contest papers) stages paper ≡ place contest stages paper
 place_reordered contest papers [] paper = refl
 place_reordered contest papers (s ∷ before) paper = ap (moved contest before s.action paper) (place_reordered contest papers before paper)
@@ -34,7 +34,7 @@ module _ (e : ElectionEntry) (ward : WardEntry) (columns : List ℕ) (bundles : 
       let same : papers_of bundles ≡ book.contest.papers = ap (λ bs. papers_of bs) has.bundles_are ∙ ap (λ (c : Contest). c.papers) (sym has.contest_is) in
       subst (λ papers. IsPermutation (papers_of bundles) papers) same (IsPermutation-refl (papers_of bundles))
 
-  -- each of these papers is in its place in the election
+  -- each of these papers has the same place in the book as in the election
   counted_place : (paper : List ℕ) → place book.contest book.history paper ≡ place (contest_of e) (stages_of e) paper
   counted_place paper =
       ap (λ (c : Contest). place c book.history paper) (has.contest_is ∙ sym (contest-reordered (columns_of e.candidates) e.ward.seats e.ballots.papers))
@@ -59,7 +59,7 @@ module _ (e : ElectionEntry) (ward : WardEntry) (columns : List ℕ) (bundles : 
         ∙ ap (figures_to e.ward.number (columns_of e.candidates)) (are ∙ has.stages_are)
         ∙ sym (rw staged refl)
 
--- the counts of all wards in the rows together make up the tabulation of the state
+-- the tabulations of all wards in the rows together make up the tabulation of the state
 pub tabulation-by_ward : (rows : Rows) (t : TabulationEntries) (wards : List Ward) → wards ≡ rows.wards.items
     → t.bundles ≡ flat_map (λ (w : Ward). bundles_in (election_of (state_of rows) (ward_entry w))) wards
     → t.figures ≡ flat_map (λ (w : Ward). figures_in (election_of (state_of rows) (ward_entry w))) wards

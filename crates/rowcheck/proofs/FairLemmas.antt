@@ -1,4 +1,4 @@
--- The wards of an office whose rows are in key order, each found by its number; and the lots of the office.
+-- The wards of an office whose rows are in key order, each found by its number; and the office's lots.
 use Rattle.std.proofs.Common.{◌≡◌, true, false, List, [], ◌∷◌, map, Some, is_some, refl, ◌∙◌, eq-eqb}
 use Rattle.std.specs.List.{AllByRecursion, list_all}
 use Rattle.std.specs.List.Sorted.{IsStrictlySortedBy}
@@ -54,7 +54,8 @@ each_of : {X Y : Type 0} (P : Y → Type 0) (f : X → Y) (xs : List X) → AllB
 each_of P f [] all = tt
 each_of P f (x ∷ xs) all = (all.0, each_of P f xs all.1)
 
--- if the count of every contested ward that is found can be held, the count of every ward in the rows can
+-- if a count can be held for every contested ward that is found by its number, one can be held for every ward
+-- in the rows
 pub all_fair : (rows : Rows) → IsStrictlySortedBy ward_cmp (state_of rows).wards
     → ((w : WardEntry) → ward_at (state_of rows) w.number ≡ Some w → is_contested w (candidates_of (state_of rows) w.number) ≡ true → IsContest (contest_of (election_of (state_of rows) w)))
     → AllByRecursion (λ w. IsFair (state_of rows) (ward_entry w)) rows.wards.items
@@ -63,7 +64,7 @@ all_fair rows rise fair =
     each_weaker (IsFound (state_of rows).wards) (IsFair (state_of rows)) (state_of rows).wards (λ w found contested. fair w found contested) (each_found (state_of rows).wards rise)
     )
 
--- if every lot belongs to an existing ward, the condition on the counts is a condition on every ward in the
+-- if every lot belongs to an existing ward, the condition on the counts can be checked for each ward in the
 -- rows
 pub by_ward : (rows : Rows) → list_all (λ (l : DrawnLot). is_some (ward_at (state_of rows) l.ward)) rows.lots.items ≡ true
     → all_counted (state_of rows) ≡ list_all (λ (w : Ward). is_counted_right (election_of (state_of rows) (ward_entry w))) rows.wards.items

@@ -1,4 +1,4 @@
--- Rows in key order are also ordered by how they compare with a key, or with a prefix of one; and what is found in them is what the state
+-- Rows in key order are also in order when compared with a key, or with a prefix of one; and a search of the rows finds what the state
 -- contains.
 use Rattle.std.proofs.Common.{◌≡◌, ℕ, ◌<◌, ◌≤◌, ◌==◌, Bool, true, false, ◌&&◌, cond, nat_lt, List, [], ◌∷◌, map, length, get_or, filter, find, slice_get, Option, Some, None, option_map}
 use Rattle.std.proofs.Common.{option_copied, is_some, Bor, zero, suc, refl, sym, ap, ◌∙◌, arith, inl, inr, eq-eqb}
@@ -27,7 +27,7 @@ above_from m n more = go (nat_lt m n) refl (m == n) refl more
           | inr away ↦ let differs = away.1 in omega (arith, least, differs)
         ]
 
--- a comparison of rows that follows their order: no row compares as lower than a row that sorts before it
+-- a comparison that is consistent with the order of the rows: no row compares less than a row that sorts before it
 abbrev pub Follows : {Y : Type 0} → (Y → Y → Ordering) → (Y → Ordering) → Type 0
 Follows {Y} cmp o = (y z : Y) → cmp y z ≡ Less → ordering_index (o y) ≤ ordering_index (o z)
 
@@ -37,7 +37,7 @@ at_most_two Equal = omega arith
 at_most_two Greater = omega arith
 
 module _ {Y : Type 0} (n : Y → ℕ) (key : ℕ) where
-  -- comparing first by a number, and then by a comparison that follows the rest of the order
+  -- comparing first by a number, and then by a comparison that is consistent with the rest of the order
   pub follows_then : (rest : Y → Y → Ordering) (o : Y → Ordering) → Follows rest o → Follows (then_cmp (on n nat_cmp) rest) (λ y. ordering_then (nat_cmp (n y) key) (o y))
   follows_then rest o later y z less = go (nat_cmp (n y) (n z)) refl less
     where
@@ -74,7 +74,7 @@ module _ {Y : Type 0} (n : Y → ℕ) (key : ℕ) where
       plain Greater Equal below = below
       plain Greater Greater below = below
 
-  -- comparing by a number that is the whole key
+  -- comparing by a number that is the entire key
   pub follows_key : Follows (on n nat_cmp) (λ y. nat_cmp (n y) key)
   follows_key y z less = follows (λ a b. Less) y z (rw less refl)
 
@@ -95,7 +95,7 @@ stand_in_order f cmp o along (x ∷ xs) up (suc i) (suc j) d low high = stand_in
 
 -- ---- what is found
 
--- whether two numbers compare as equal doesn't depend on their order
+-- whether two numbers compare as equal doesn't depend on which comes first
 pub equal_either_way : (m n : ℕ) → is_eq (nat_cmp m n) ≡ is_eq (nat_cmp n m)
 equal_either_way m n =
     unsigned_tied m n
@@ -129,7 +129,7 @@ module _ {X Y : Type 0} (f : X → Y) (p : Y → Bool) (q : X → Bool) (alike :
       go true later = ap (λ ys. f x ∷ ys) later
       go false later = later
 
-  -- the entry of the first row found
+  -- the entry for the first row that is found
   pub first_found : (xs : List X) → option_map f (slice_get (filter q xs) 0) ≡ find p (map f xs)
   first_found [] = refl
   first_found (x ∷ xs) = rw (alike x) (go (p (f x)) (first_found xs))
@@ -138,7 +138,7 @@ module _ {X Y : Type 0} (f : X → Y) (p : Y → Bool) (q : X → Bool) (alike :
       go true later = refl
       go false later = later
 
--- an entry is found if and only if a row is
+-- an entry is found if and only if its row is
 pub some_found : {X Y : Type 0} (f : X → Y) (o : Option (Bor X)) → is_some (option_map f (option_copied o)) ≡ is_some o
 some_found f None = refl
 some_found f (Some x) = refl

@@ -1,5 +1,5 @@
--- Rows grouped by owner: if every row has an owner, a condition on every row and its owner is a condition on every owner
--- and its rows.
+-- Rows grouped by owner. If every row has an owner, a condition on every row and its owner can be checked owner by
+-- owner, on each owner's rows.
 use Rattle.std.proofs.Common.{◌≡◌, ℕ, ◌-◌, ◌<◌, ◌==◌, Bool, true, false, not, ◌&&◌, ◌||◌, cond, List, [], ◌∷◌, filter, Option, Some, None, is_some, zero, suc, refl, sym, arith, inl, inr}
 use Rattle.std.specs.List.{AllByRecursion, list_all}
 use Rattle.std.specs.List.Sorted.{IsStrictlySortedBy}
@@ -20,7 +20,7 @@ all_true : {X : Type 0} (xs : List X) → list_all (λ x. true) xs ≡ true
 all_true [] = refl
 all_true (x ∷ xs) = all_true xs
 
--- two tests of every element
+-- applying two tests to every element
 pub all_both : {X : Type 0} (p q : X → Bool) (xs : List X) → list_all (λ x. p x && q x) xs ≡ (list_all p xs && list_all q xs)
 all_both p q [] = refl
 all_both {X} p q (x ∷ xs) = rw (all_both p q xs) (go (p x) (q x))
@@ -35,7 +35,7 @@ all_both {X} p q (x ∷ xs) = rw (all_both p q xs) (go (p x) (q x))
     go false b = refl
 
 module _ {W X : Type 0} (own : W → ℕ) (key : X → ℕ) (test : X → Option W → Bool) (unowned : (x : X) → test x None ≡ false) where
-  -- an owner passes together with a row, or the row isn't its own
+  -- an owner and a row pass the test together, or the row belongs to another owner
   abbrev passes_with : X → W → Bool
   passes_with x w = not (key x == own w) || test x (Some w)
 
@@ -45,7 +45,8 @@ module _ {W X : Type 0} (own : W → ℕ) (key : X → ℕ) (test : X → Option
       let higher = below_from (own w) (own v) above.0 in
       rw (less_differs (key x) (own v) (omega (arith, same, higher))) (others_pass x w same ws above.1)
 
-  -- a row passes together with its owner exactly if the owner exists and every owner passes together with the row
+  -- a row and its owner pass the test together if and only if the owner exists and every owner passes together with the
+  -- row
   row_passes : (x : X) (ws : List W) → IsStrictlySortedBy (on own nat_cmp) ws
       → test x (entry_at (λ w. nat_cmp (key x) (own w)) ws) ≡ (is_some (entry_at (λ w. nat_cmp (key x) (own w)) ws) && list_all (passes_with x) ws)
   unfolding IsStrictlySortedBy
@@ -59,7 +60,7 @@ module _ {W X : Type 0} (own : W → ℕ) (key : X → ℕ) (test : X → Option
       whole true = refl
       whole false = refl
 
-  -- another row among those of the owners
+  -- the rows with another row added, grouped by owner
   rows_more : (x : X) (xs : List X) (ws : List W)
       → list_all (λ w. list_all (λ y. test y (Some w)) (filter (λ y. key y == own w) (x ∷ xs))) ws
       ≡ (list_all (passes_with x) ws && list_all (λ w. list_all (λ y. test y (Some w)) (filter (λ y. key y == own w) xs)) ws)
@@ -85,7 +86,7 @@ module _ {W X : Type 0} (own : W → ℕ) (key : X → ℕ) (test : X → Option
       go true r p q is = rw is (four (test x (Some w)) r p q)
       go false r p q is = rw is (three r p q)
 
-  -- the condition on every row and its owner
+  -- checking every row with its owner is the same as checking every owner with its rows
   pub by_owner : (ws : List W) (xs : List X) → IsStrictlySortedBy (on own nat_cmp) ws
       → list_all (λ x. test x (entry_at (λ w. nat_cmp (key x) (own w)) ws)) xs
       ≡ (list_all (λ x. is_some (entry_at (λ w. nat_cmp (key x) (own w)) ws)) xs && list_all (λ w. list_all (λ x. test x (Some w)) (filter (λ x. key x == own w) xs)) ws)
@@ -104,7 +105,7 @@ module _ {W X : Type 0} (own : W → ℕ) (key : X → ℕ) (test : X → Option
 -- ---- keyings
 
 module _ (s : OfficeState) (rise : IsStrictlySortedBy batch_cmp s.batches) where
-  -- every keyed paper belongs to an existing batch, and every batch has the papers of its rounds
+  -- every keyed paper belongs to an existing batch, and every batch has valid papers and rounds.
   pub keyed_by_batch : (list_all (λ k. is_some (batch_at s k.batch)) s.keyings && list_all (is_rightly_keyed s) s.batches) ≡ all_keyed s
   keyed_by_batch =
       rw (
@@ -121,7 +122,7 @@ module _ (s : OfficeState) (rise : IsStrictlySortedBy batch_cmp s.batches) where
 -- ---- rounds
 
 module _ (s : OfficeState) (b : BatchEntry) where
-  -- a round, and the rounds before it
+  -- a round and the rounds before it
   pub round_first : (left : ℕ) → 0 < left → are_rounds_to s b left ≡ (is_round_of s b left && are_rounds_to s b (left - 1))
   round_first zero some = absurd (omega arith)
   round_first (suc left) some = let e : suc left - 1 ≡ left = omega arith in rw e (rounds_more s b left)

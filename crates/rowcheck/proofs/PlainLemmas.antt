@@ -8,12 +8,12 @@ use Rattle.std.proofs.lemmas.Bool.Decides.{leb_tells, nat_tests}
 use Rattle.std.proofs.lemmas.Str.{digit_value_digit}
 use Rattle.register.specs.Ranges.{is_between}
 
--- another digit never makes a number smaller
+-- appending a digit never makes a number smaller
 grows : (n : ℕ) (ds : List ℕ) → n ≤ digits_value_after 10 n ds
 grows n [] = omega arith
 grows n (d ∷ ds) = let later = grows (n * 10 + digit_value d) ds in omega (arith, later)
 
--- once the number is too large, more digits never make it small enough
+-- once the number is too large, no further digits make it small enough
 too_big : (most n : ℕ) (ds : List ℕ) (b : Bool) → most < n → None ≡ cond (b && nat_le (digits_value_after 10 n ds) most) (Some (digits_value_after 10 n ds)) None
 too_big most n ds false past = refl
 too_big most n ds true past = elim (leb_tells (digits_value_after 10 n ds) most) [
@@ -21,11 +21,11 @@ too_big most n ds true past = elim (leb_tells (digits_value_after 10 n ds) most)
   | inr high ↦ rw high.0 refl
 ]
 
--- the result of reading digits after those of another number
+-- the result of reading further digits, given the number read so far
 abbrev pub up_to : ℕ → ℕ → List ℕ → Option ℕ
 up_to most n ds = cond (all_ascii_digits ds && nat_le (digits_value_after 10 n ds) most) (Some (digits_value_after 10 n ds)) None
 
--- reading another digit
+-- reading one digit
 pub up_to-digit : (most n d : ℕ) (ds : List ℕ) → is_ascii_digit d ≡ true → up_to most n (d ∷ ds) ≡ up_to most (n * 10 + (d - 48)) ds
 up_to-digit most n d ds digit =
     let low = leb-true 48 d (and_parts (nat_le 48 d) (nat_le d 57) digit).0 in
@@ -35,15 +35,15 @@ up_to-digit most n d ds digit =
     let later : ℕ = digits_value_after 10 (n * 10 + digit_value d) ds in
     ap (λ (b : Bool). cond ((b && all_ascii_digits ds) && nat_le later most) (Some later) None) digit ∙ ap (λ (v : ℕ). up_to most (n * 10 + v) ds) same
 
--- once the number is too large, more digits never make it small enough
+-- once the number is too large, the result is `None`
 pub up_to-past : (most n : ℕ) (ds : List ℕ) → most < n → up_to most n ds ≡ None
 up_to-past most n ds past = sym (too_big most n ds (all_ascii_digits ds) past)
 
--- a byte that isn't a digit stops the reading
+-- reading stops at a byte that isn't a digit
 pub up_to-other : (most n d : ℕ) (ds : List ℕ) → is_ascii_digit d ≡ false → up_to most n (d ∷ ds) ≡ None
 up_to-other most n d ds other = rw other refl
 
--- no digits are left
+-- no digits remain
 pub up_to-end : (most n : ℕ) → n ≤ most → up_to most n [] ≡ Some n
 up_to-end most n within = grind (arith, nat_tests)
 

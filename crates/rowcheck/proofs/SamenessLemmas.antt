@@ -20,7 +20,7 @@ use Rattle.register.specs.contracts.verdicts.JudgedPaperPartialEq.TheImpl as jud
 use Rattle.register.specs.contracts.counts.DrawnLotPartialEq.TheImpl as lot_eq
 use Rattle.register.specs.contracts.receipt.ReceiptPartialEq.TheImpl as receipt_eq
 
--- For rows V with entries X, and a test of two rows.
+-- Let V be the type of the rows, X the type of their entries, and `is_one` a test of two rows.
 module _ {V X : Type 0} (is_one : V → V → Bool) (entry : V → X) where
   -- the test accepts two rows only if their entries are equal
   pub entries_one : ((a b : V) → is_one a b ≡ true → entry a ≡ entry b) → (xs ys : List V) → pointwise is_one xs ys ≡ true → map entry xs ≡ map entry ys

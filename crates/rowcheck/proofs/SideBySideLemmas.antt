@@ -1,4 +1,4 @@
--- Walking rows side by side with their owners: the run of each owner consists of all its rows, and any remaining rows
+-- Walking rows and their owners side by side: each run consists of all the rows of its owner, and any rows left over
 -- have no owner.
 use Rattle.std.proofs.Common.{◌≡◌, ℕ, ◌+◌, ◌<◌, ◌≤◌, ◌==◌, Bool, true, false, ◌&&◌, cond, nat_lt, List, [], ◌∷◌, map, length, get_or, filter, drop, take_while, is_some, suc, refl, sym, ap}
 use Rattle.std.proofs.Common.{◌∙◌, arith, inl, inr}
@@ -16,9 +16,9 @@ use Rattle.register.specs.Offices.{entry_at}
 use Rattle.register.proofs.MapLemmas.{each_weaker}
 use Rattle.rowcheck.specs.Walks.KeyRanges.{skip_while, pass_by_run}
 
--- ---- fronts
+-- ---- prefixes
 
--- what remains after removing a front
+-- what remains of a list once a prefix is removed
 pub drop_front : {X : Type 0} (p : X → Bool) (xs : List X) → drop (prefix_len p xs) xs ≡ skip_while p xs
 drop_front p [] = refl
 drop_front {X} p (x ∷ xs) = go (p x) (drop_front p xs)
@@ -48,7 +48,7 @@ unfolding IsStrictlySortedBy
 rest_rises cmp p [] up = tt
 rest_rises {X} cmp p (x ∷ xs) up = elim (p x) as (λ b. IsStrictlySortedBy cmp (cond b (skip_while p xs) (x ∷ xs))) [ true ↦ rest_rises cmp p xs up.1 | false ↦ up ]
 
--- ---- a walk through rows, or through what they represent
+-- ---- walking the rows is the same as walking the entries that they represent
 
 pub by_run_map : {V W X Y : Type 0} (f : V → W) (g : X → Y) (own : W → ℕ) (key : Y → ℕ) (test : W → List Y → Bool) (vs : List V) (xs : List X)
     → pass_by_run (λ v. own (f v)) (λ x. key (g x)) (λ v ys. test (f v) (map g ys)) vs xs ≡ pass_by_run own key test (map f vs) (map g xs)
@@ -57,7 +57,7 @@ by_run_map f g own key test (v ∷ vs) xs =
     rw (front_map g (λ y. key y == own (f v)) xs, rest_map g (λ y. key y == own (f v)) xs)
     (ap (λ b. test (f v) (map g (take_while (λ x. key (g x) == own (f v)) xs)) && b) (by_run_map f g own key test vs (skip_while (λ x. key (g x) == own (f v)) xs)))
 
--- walking past another owner
+-- skipping an owner without rows
 pub by_run_more : {W X : Type 0} (own : W → ℕ) (key : X → ℕ) (test : W → List X → Bool) (ws : List W) (xs : List X) (i : ℕ) (w : W) → i < length ws → get_or ws i w ≡ w
     → pass_by_run own key test (drop i ws) xs ≡ (test w (take_while (λ x. key x == own w) xs) && pass_by_run own key test (drop (i + 1) ws) (skip_while (λ x. key x == own w) xs))
 by_run_more {W} own key test ws xs i w within is =
@@ -80,11 +80,11 @@ less_differs m n less = elim (eqb_tells m n) [ inl same ↦ absurd (let e = same
 pub more_differs : (m n : ℕ) → n < m → (m == n) ≡ false
 more_differs m n more = elim (eqb_tells m n) [ inl same ↦ absurd (let e = same.1 in omega (arith, e, more)) | inr other ↦ other.0 ]
 
--- numbers that compare as equal are equal
+-- two numbers that compare as equal are equal
 pub equal_from : (m n : ℕ) → nat_cmp m n ≡ Equal → m ≡ n
 equal_from m n same = eqb-true m n (sym (unsigned_tied m n) ∙ ap is_eq same)
 
--- a number that compares as less is less
+-- if one number compares as less than another, it is less
 pub below_from : (m n : ℕ) → nat_cmp m n ≡ Less → m < n
 below_from m n less = go (nat_lt m n) refl (m == n) less
   where
@@ -94,7 +94,7 @@ below_from m n less = go (nat_lt m n) refl (m == n) less
     go false is false told = absurd (cc)
 
 module _ {W X : Type 0} (own : W → ℕ) (key : X → ℕ) where
-  -- a row has an owner with the row's number
+  -- whether a row has an owner
   abbrev is_owned : List W → X → Bool
   is_owned ws x = is_some (entry_at (λ w. nat_cmp (key x) (own w)) ws)
 
@@ -102,11 +102,11 @@ module _ {W X : Type 0} (own : W → ℕ) (key : X → ℕ) where
   abbrev rows_of : W → List X → List X
   rows_of w xs = filter (λ x. key x == own w) xs
 
-  -- every owner passes a test together with its rows
+  -- every owner passes the test together with its rows
   abbrev are_tested : (W → List X → Bool) → List W → List X → Bool
   are_tested test ws xs = list_all (λ w. test w (rows_of w xs)) ws
 
-  -- a row whose number is less than those of all owners has no owner
+  -- a row whose number is less than every owner's number has no owner
   unowned : (ws : List W) (x : X) → AllByRecursion (λ w. key x < own w) ws → is_owned ws x ≡ false
   unowned [] x above = refl
   unowned (w ∷ ws) x above = rw (unsigned_tied (key x) (own w) ∙ less_differs (key x) (own w) above.0) (unowned ws x above.1)
@@ -120,7 +120,7 @@ module _ {W X : Type 0} (own : W → ℕ) (key : X → ℕ) where
     none_owned ws [] above = refl
     none_owned ws (x ∷ xs) above = rw (unsigned_tied (key x) (own w) ∙ more_differs (key x) (own w) above.0) (ap (λ b. is_owned ws x && b) (none_owned ws xs above.1))
 
-    -- the rows of another owner come after this run
+    -- the rows of a later owner all come after this run
     rows_behind : (other : W) → own w < own other → (xs : List X) → rows_of other (skip_while (λ x. key x == own w) xs) ≡ rows_of other xs
     rows_behind other above [] = refl
     rows_behind other above (x ∷ xs) = elim (eqb_tells (key x) (own w)) [
@@ -133,11 +133,11 @@ module _ {W X : Type 0} (own : W → ℕ) (key : X → ℕ) where
     tested_behind test (v ∷ ws) above xs = rw (rows_behind v above.0 xs) (ap (λ b. test v (rows_of v xs) && b) (tested_behind test ws above.1 xs))
 
     module _ (cmp : X → X → Ordering) (below : (x y : X) → cmp x y ≡ Less → key x ≤ key y) where
-      -- if a row is above an owner, so are the rows after it
+      -- if a row is above an owner, so are all the rows after it
       all_above : (x : X) (xs : List X) → own w < key x → AllByRecursion (λ y. cmp x y ≡ Less) xs → AllByRecursion (λ y. own w < key y) (x ∷ xs)
       all_above x xs above up = (above, each_weaker (λ y. cmp x y ≡ Less) (λ y. own w < key y) xs (λ y less. let e = below x y less in omega (arith, e, above)) up)
 
-      -- if no row is below the owner, its rows are the run at the front
+      -- if no row is below the owner, the owner's rows are the run at the front
       rows_at_front : (xs : List X) → IsStrictlySortedBy cmp xs → AllByRecursion (λ x. own w ≤ key x) xs → rows_of w xs ≡ take_while (λ x. key x == own w) xs
       unfolding IsStrictlySortedBy
       rows_at_front [] up least = refl
@@ -150,7 +150,7 @@ module _ {W X : Type 0} (own : W → ℕ) (key : X → ℕ) where
             rw (take_while-cons (λ y. key y == own w) x xs, away.0) (none_here xs (all_above x xs above up.0).1)
       ]
 
-      -- the run has this owner, and the remaining rows have only the other owners
+      -- the rows in the run belong to this owner, and the remaining rows to the other owners
       owned_behind : (ws : List W) (xs : List X) → IsStrictlySortedBy cmp xs → AllByRecursion (λ x. own w ≤ key x) xs
           → list_all (is_owned (w ∷ ws)) xs ≡ list_all (is_owned ws) (skip_while (λ x. key x == own w) xs)
       unfolding IsStrictlySortedBy
@@ -165,11 +165,11 @@ module _ {W X : Type 0} (own : W → ℕ) (key : X → ℕ) where
       ]
 
   module _ (cmp : X → X → Ordering) (below : (x y : X) → cmp x y ≡ Less → key x ≤ key y) (test : W → List X → Bool) where
-    -- what a walk should prove: every row has an owner, and every owner passes together with its rows
+    -- what the walk is meant to prove: every row has an owner, and every owner passes the test together with its rows
     abbrev Tells : List W → List X → Type 0
     Tells ws xs = pass_by_run own key test ws xs ≡ (list_all (is_owned ws) xs && are_tested test ws xs)
 
-    -- the walk proves this if no row is below the next owner
+    -- the walk proves it if no row is below the next owner
     tells_above : (w : W) (ws : List W) (xs : List X) → AllByRecursion (λ v. own w < own v) ws → IsStrictlySortedBy cmp xs → AllByRecursion (λ x. own w ≤ key x) xs
         → Tells ws (skip_while (λ x. key x == own w) xs)
         → Tells (w ∷ ws) xs
@@ -177,7 +177,7 @@ module _ {W X : Type 0} (own : W → ℕ) (key : X → ℕ) where
         rw (rows_at_front w cmp below xs up least, owned_behind w cmp below ws xs up least, sym (tested_behind w test ws owners xs), later)
         (swapped (test w (take_while (λ x. key x == own w) xs)) (list_all (is_owned ws) (skip_while (λ x. key x == own w) xs)) (are_tested test ws (skip_while (λ x. key x == own w) xs)))
 
-    -- the walk proves this if a row is below the next owner: such a row has no owner
+    -- the walk also proves it if a row is below the next owner, since such a row has no owner
     tells_below : (w : W) (ws : List W) (x : X) (xs : List X) → AllByRecursion (λ v. own w < own v) ws → key x < own w → Tells ws (x ∷ xs) → Tells (w ∷ ws) (x ∷ xs)
     tells_below w ws x xs owners low later =
         let differs = less_differs (key x) (own w) low in
@@ -185,7 +185,8 @@ module _ {W X : Type 0} (own : W → ℕ) (key : X → ℕ) where
         let none : pass_by_run own key test ws (x ∷ xs) ≡ false = later ∙ rw further refl in
         rw (take_while-cons (λ y. key y == own w) x xs, unsigned_tied (key x) (own w) ∙ differs, differs, none, further) (nothing (test w []))
 
-    -- if owners and rows are in key order, a walk proves exactly that
+    -- if owners and rows are in key order, the walk succeeds if and only if every row has an owner and every owner
+    -- passes the test
     pub walk_tells : (ws : List W) (xs : List X) → IsStrictlySortedBy (on own nat_cmp) ws → IsStrictlySortedBy cmp xs → Tells ws xs
     unfolding IsStrictlySortedBy
     walk_tells [] [] owners up = refl

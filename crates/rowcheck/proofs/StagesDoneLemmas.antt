@@ -1,4 +1,4 @@
--- What recounting the stages of a count proves about the stages that are claimed to be done.
+-- What recounting a count's stages proves about the stages claimed to be done.
 use Rattle.std.proofs.Common.{◌≡◌, ℕ, ◌+◌, ◌-◌, ◌<◌, ◌≤◌, ◌==◌, Bool, not, ◌&&◌, ◌||◌, List, [], ◌∷◌, map, length, slice_get, Option, Some, None, zero, suc, refl, sym, ap, ◌∙◌, arith, inl, inr}
 use Rattle.std.specs.List.{list_all, range_with_len}
 use Rattle.std.proofs.lemmas.Bool.Decides.{leb_tells}
@@ -30,7 +30,7 @@ module _ (contest : Contest) (lots : List (ℕ × ℕ)) where
   one_more before None = omega arith
   one_more before (Some action) = omega arith
 
-  -- if a count has fewer stages than asked for, it also has fewer than any higher number
+  -- if a count has fewer stages than requested, it also has fewer than any greater number
   pub fewer : (k n : ℕ) → length (stages_to contest lots k) < k → length (stages_to contest lots (k + n)) < k + n
   unfolding stages_to
   fewer k zero less = let e : k + 0 ≡ k = omega arith in rw e less
@@ -59,15 +59,15 @@ pub map-alike : {X Y : Type 0} (f g : X → Y) (xs : List X) → ((x : X) → f 
 map-alike f g [] alike = refl
 map-alike f g (x ∷ xs) alike = rw (alike x, map-alike f g xs alike) refl
 
--- A count of an election, on the bundles of its papers.
+-- The count of an election with its papers in bundles.
 module _ (e : ElectionEntry) (ward : WardEntry) (lots : List (ℕ × ℕ)) (contest : Contest) (of : IsOnBundlesOf e ward lots contest) where
-  -- the count belongs to this election, with this ward and these lots
+  -- this is the count of the given election, with the given ward and lots
   pub count-same : (let one : ElectionEntry = record { ward = ward; candidates = e.candidates; ballots = e.ballots; lots = lots } in one) ≡ e
   count-same =
       ap (λ (w : WardEntry). let one : ElectionEntry = record { ward = w; candidates = e.candidates; ballots = e.ballots; lots = lots } in one) of.ward_is
       ∙ ap (λ (ls : List (ℕ × ℕ)). let one : ElectionEntry = record { ward = e.ward; candidates = e.candidates; ballots = e.ballots; lots = ls } in one) of.lots_are
 
-  -- the count is on the same papers, in another order
+  -- the count has the same papers, in a different order
   pub count-order : contest ≡ reordered (contest_of e) (papers_of (bundled e.ballots.papers))
   count-order = other_order e (columns_of e.candidates) e.ward.seats (bundled e.ballots.papers) refl refl refl lots of.lots_are contest of.contest_is
 
@@ -75,11 +75,11 @@ module _ (e : ElectionEntry) (ward : WardEntry) (lots : List (ℕ × ℕ)) (cont
   pub count-stages : (k : ℕ) → stages_to contest lots k ≡ stages_to (contest_of e) e.lots k
   count-stages = stages-alike e (columns_of e.candidates) e.ward.seats (bundled e.ballots.papers) refl refl refl lots of.lots_are contest of.contest_is
 
-  -- the same is due before each stage
+  -- what is due before each stage is the same
   pub count-due : (k : ℕ) → due_after contest (stages_to contest lots k) ≡ due_after (contest_of e) (stages_to (contest_of e) e.lots k)
   count-due = due-alike e (columns_of e.candidates) e.ward.seats (bundled e.ballots.papers) refl refl refl lots of.lots_are contest of.contest_is
 
--- the contest made from the entries of an election is a contest on its bundles
+-- a contest made from the entries of an election is a contest with the election's bundles
 pub made-count : (e : ElectionEntry) (ward : WardEntry) (candidates : List CandidateEntry) (ballots : Ballots (List Bundle)) (lots : List (ℕ × ℕ)) (columns : List ℕ) (contest : Contest)
     → IsElectionFrom e ward candidates ballots lots → IsContest (contest_of e) →
     columns ≡ columns_of candidates → contest ≡ contest_for columns ward.seats (papers_of ballots.papers) → IsOnBundlesOf e ward lots contest
@@ -98,7 +98,7 @@ module _ (e : ElectionEntry) where
   abbrev due_at : ℕ → Due
   due_at k = due_after (contest_of e) (stages_to (contest_of e) e.lots k)
 
-  -- what is due before each stage, up to the stage after those done
+  -- what is due before each completed stage, and before the stage that follows
   abbrev dues_of : List Due
   dues_of = map due_at (range_with_len 0 (e.ward.done + 1))
 
@@ -108,12 +108,12 @@ module _ (e : ElectionEntry) where
     | inr past ↦ let p = past.1 in rw (past.0, due_past due_at (e.ward.done + 1) (lot.0 - 1) (omega (arith, p))) refl
   ]
 
-  -- if all stages done have been counted
+  -- if all completed stages have been counted
   told : (has_finished (slice_get dues_of e.ward.done) ≡ is_finished (due_at e.ward.done)) × (list_all (is_drawn_by dues_of) e.lots ≡ list_all (is_drawn_for e) e.lots)
   told = (ap has_finished (due_within due_at (e.ward.done + 1) e.ward.done (omega arith)), all_same (is_drawn_by dues_of) (is_drawn_for e) e.lots drawn_one)
 
   module _ (asked : ℕ) (stages : History) (dues : List Due) (fair : IsContest (contest_of e)) (is : stages ≡ stages_to (contest_of e) e.lots asked) where
-    -- what this proves about the stages done and the lots
+    -- what this proves about the completed stages and about the lots
     abbrev pub is_told : Bool
     is_told = (length stages == e.ward.done) && (list_all (is_drawn_by dues) e.lots && (not (is_declared e.ward.phase) || has_finished (slice_get dues e.ward.done)))
 
@@ -136,7 +136,7 @@ module _ (e : ElectionEntry) where
       | inr past ↦ told_many past.1 (many past.1) short
     ]
 
-    -- if as many stages are counted as are claimed to be done, they are the stages done
+    -- if as many stages are counted as are claimed to be done, the counted stages are the completed stages
     pub told_stages : (e.ward.done ≤ 31 → asked ≡ e.ward.done) → IsShort (contest_of e) stages → length stages ≡ e.ward.done → stages ≡ stages_of e
     told_stages few short all =
         let columns = length_columns (contest_of e).candidates fair.candidate_set in

@@ -1,4 +1,4 @@
--- The batches of a ward: those visited so far, and the condition on all of them.
+-- The batches of a ward: those visited so far, and the condition that all of them must meet.
 use Rattle.std.proofs.Common.{◌≡◌, ℕ, ◌+◌, ◌<◌, ◌==◌, Bool, true, false, not, ◌&&◌, ◌||◌, cond, List, [], ◌∷◌, ◌++◌, map, length, get_or, take, filter, zero, suc, refl, ap, arith}
 use Rattle.std.specs.List.{list_all}
 use Rattle.register.specs.declared.batches.Batch.{Batch}
@@ -12,7 +12,7 @@ pub agreed_in_count : (e : ElectionEntry) → is_in_count e ≡ true → is_agre
 agreed_in_count e begun = rw begun refl
 
 module _ (s : OfficeState) (ward : ℕ) where
-  -- the condition on every batch of the ward
+  -- the condition that every batch of the ward must meet
   pub settled_by_ward : (bs : List BatchEntry) → list_all (is_settled_for s ward) bs ≡ list_all is_settled (piles_in s ward bs)
   settled_by_ward [] = refl
   settled_by_ward (b ∷ bs) = go (b.ward == ward) (settled_by_ward bs)
@@ -23,7 +23,7 @@ module _ (s : OfficeState) (ward : ℕ) where
       go true later = ap (λ p. is_settled (pile_of s b) && p) later
       go false later = later
 
-  -- visiting another batch, of the ward or of another ward
+  -- visiting another batch, which belongs either to this ward or to a different one
   pub piles_with : (bs : List Batch) (i : ℕ) (b : Batch) → i < length bs → get_or bs i b ≡ b → (b.ward == ward) ≡ true
       → piles_in s ward (map batch_entry (take (i + 1) bs)) ≡ piles_in s ward (map batch_entry (take i bs)) ++ (pile_of s (batch_entry b) ∷ [])
   piles_with [] i b within is of_it = absurd (omega arith)

@@ -1,10 +1,10 @@
--- The maps that rows represent, and the tabulation in them.
+-- The maps that the rows represent, and the tabulation that they contain.
 use Rattle.std.specs.Prelude.{map}
 use Rattle.register.specs.Offices.{OfficeState, ward_entry, candidate_entry, batch_entry, third_entry, keyed_entry, judged_entry, lot_entry, receipt_entry}
 use Rattle.register.specs.Tabulated.{TabulationEntries, placed_entry, figure_entry}
 use Rattle.rowcheck.specs.declared.rows.Rows.{Rows}
 
--- the maps that rows represent, entry by entry; they are a state only if they meet every condition
+-- the maps that the rows represent, entry by entry; they are a state only if they meet every condition
 abbrev pub state_of : Rows → OfficeState
 state_of rows =
     record {

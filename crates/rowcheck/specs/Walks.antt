@@ -1,4 +1,4 @@
--- How the rows are iterated over to check each condition: the results of this crate's private functions. No public contract refers to this file, so
+-- The results of this crate's private functions, which iterate over the rows to check each condition. No public contract refers to this file, so
 -- readers of the contracts can skip it.
 pub mod KeyRanges
 pub mod Nominations

@@ -1,4 +1,4 @@
-//! Batches, the wards that they belong to, and third clerks.
+//! Batches, the wards to which they belong, and third clerks.
 
 ghost use Rattle.std.specs.Prelude.{◌≡◌, map, option_map, option_copied};
 ghost use Rattle.std.specs.List.{list_all};
@@ -12,7 +12,7 @@ use crate::rows::Rows;
 use register::wards::is_contested;
 use register::{Batch, Candidate, Phase, ThirdClerk, Ward};
 
-/// Returns whether a ward exists, is past its nominations and is contested.
+/// Returns whether a ward exists, is past nominations and is contested.
 fn is_polled(ward: Option<&Ward>, candidates: &[Candidate]) -> bool
     ensures { result ≡ is_polled (option_map ward_entry (option_copied ward.entry)) (map candidate_entry candidates.now) }
 {
@@ -25,7 +25,7 @@ fn is_polled(ward: Option<&Ward>, candidates: &[Candidate]) -> bool
     }
 }
 
-/// Returns whether a batch has two different clerks and belongs to a contested ward past its nominations.
+/// Returns whether a batch has two different clerks and belongs to a contested ward that is past nominations.
 fn is_given_out(rows: &Rows, batch: &Batch) -> bool
     requires { MapsAreSorted (state_of rows.now) }
     ensures { result ≡ is_given_out (state_of rows.now) (batch_entry batch.now) }
@@ -42,7 +42,7 @@ fn are_given_out(rows: &Rows, batches: &[Batch]) -> bool
     batches.iter().all(|batch| is_given_out(rows, batch))
 }
 
-/// Returns whether a batch exists and a third clerk is neither of its two clerks.
+/// Returns whether a batch exists and the given third clerk is neither of its two clerks.
 fn is_third_for(third: &ThirdClerk, batch: Option<&Batch>) -> bool
     ensures { result ≡ is_third_for (third_entry third.now) (option_map batch_entry (option_copied batch.entry)) }
 {
@@ -71,9 +71,9 @@ fn are_set_right(rows: &Rows, thirds: &[ThirdClerk]) -> bool
     thirds.iter().all(|third| is_set_right(rows, third))
 }
 
-/// Returns whether every batch belongs to a contested ward past its nominations and has two different clerks, and every
-/// third clerk belongs to an existing batch and is neither of its two clerks. This is the third condition on the rows of an
-/// office, given that its tables are in key order without duplicates.
+/// Returns whether every batch belongs to a contested ward that is past nominations and has two different clerks, and
+/// whether every third clerk belongs to an existing batch and is neither of its two clerks. This is the third condition on
+/// the rows of an office, assuming that its tables are in key order without duplicates.
 pub fn all_given_out(rows: &Rows) -> bool
     requires { MapsAreSorted (state_of rows.now) }
     ensures { result ≡ all_given_out (state_of rows.now) }

@@ -1,7 +1,7 @@
-//! The counts of wards: the stages done, the lots drawn, and the tabulation.
+//! The counts of wards: the completed stages, the lots drawn, and the tabulation.
 //!
-//! The stages of a count, and what is due before each of them, follow from its papers and lots. Each count is therefore
-//! recounted, once, and compared with the rows. The bundles and figures that it yields are kept for `is_tabulated`.
+//! The stages of a count, and what is due before each of them, are determined by its papers and lots. Each count is therefore
+//! recounted, once, and compared with the rows. The resulting bundles and figures are kept for `is_tabulated`.
 
 ghost use Rattle.std.specs.Prelude.{◌≡◌, ◌≤◌, ◌<◌, true, [], map, slice_get, option_copied, is_some, IfOk, IfSome, OnOk};
 ghost use Rattle.std.specs.List.{list_all, flat_map, AllByRecursion};
@@ -25,10 +25,10 @@ use register::ranges::LAST_LOT_STAGE;
 use register::{Ballots, Candidate, DrawnLot, Phase, Tabulation, Ward};
 use std::alloc::{AllocError, Global};
 
-/// The number of stages to count if the rows claim more stages than a count can have.
+/// The number of stages to recount if the rows claim more stages than a count can have.
 const TOO_MANY: u32 = LAST_LOT_STAGE + 1;
 
-/// Returns how many stages to count if the rows claim `done`: `done` itself or, if no count has that many, one more than any
+/// Returns how many stages to recount if the rows claim `done`: `done` itself or, if no count has that many, one more than any
 /// count can have.
 fn stages_asked(done: u32) -> u32
     ensures few { done ≤ 31 → result ≡ done }
@@ -40,7 +40,7 @@ fn stages_asked(done: u32) -> u32
     TOO_MANY
 }
 
-/// Returns whether a lot is due and the candidate is one of those tied.
+/// Returns whether a lot is due and the given candidate is one of those tied.
 fn is_among(candidate: u8, due: Option<&Due>) -> bool
     ensures { result ≡ is_among candidate (option_copied due.entry) }
 {
@@ -50,7 +50,7 @@ fn is_among(candidate: u8, due: Option<&Due>) -> bool
     }
 }
 
-/// Returns whether a lot is for a stage that needs one and names one of the candidates tied.
+/// Returns whether a lot is for a stage that needs one and names one of the tied candidates.
 fn is_drawn_by(dues: &[Due], lot: (u8, u8)) -> bool
     ensures { result ≡ is_drawn_by dues.now lot }
 {
@@ -65,7 +65,7 @@ fn are_drawn_by(dues: &[Due], lots: &[(u8, u8)]) -> bool
     lots.iter().all(|lot| is_drawn_by(dues, *lot))
 }
 
-/// Returns whether nothing more is due after this number of stages.
+/// Returns whether nothing more is due after the given number of stages.
 fn is_finished_at(dues: &[Due], done: u32) -> bool
     ensures { result ≡ has_finished (slice_get dues.now done) }
 {
@@ -82,9 +82,9 @@ fn is_declared(phase: Phase) -> bool
     phase.number() == Phase::Declared.number()
 }
 
-/// Counts the stages done of a ward in a new book, or as many of them as there are. Returns whether there are as many stages as
-/// the ward claims, every lot was needed, and if the ward is declared, nothing more is due. Returns `AllocError` if an allocation
-/// fails.
+/// Counts, in a new book, as many stages as a ward claims to be done, or as many as there are. Returns whether there are as many
+/// stages as the ward claims, every lot was needed and, if the ward is declared, nothing more is due. Returns `AllocError` if an
+/// allocation fails.
 fn count_done(
     alloc: Global,
     ward: &Ward,
@@ -104,7 +104,7 @@ fn count_done(
     Ok(counted & (drawn & (!is_declared(ward.phase) | finished)))
 }
 
-/// Adds the bundles and the figures of a ward's count to the tabulation, if any stage is done. Returns `AllocError` if an
+/// Adds the bundles and figures of a ward's count to the tabulation, if any stage has been done. Returns `AllocError` if an
 /// allocation fails.
 fn add_stages(
     alloc: Global,
@@ -120,7 +120,7 @@ fn add_stages(
     if ward.done == 0 {
         return Ok(());
     }
-    // the clauses of `len` tell the proof that the lists are distinct, so these are the book's bundles
+    // the clauses of `len` tell the prover that the lists are distinct, so these are the book's bundles
     let _ = bundles.len();
     tabulation.add(
         alloc,
@@ -132,8 +132,9 @@ fn add_stages(
     )
 }
 
-/// Adds the count of a ward, as far as it is done, to the tabulation. Returns whether the count is right: it has the stages done,
-/// every lot was needed, and if the ward is declared, nothing more is due. Returns `AllocError` if an allocation fails.
+/// Adds the completed stages of a ward's count to the tabulation. Returns whether the count is correct: it has as many stages as
+/// the ward claims, every lot was needed and, if the ward is declared, nothing more is due. Returns `AllocError` if an allocation
+/// fails.
 fn add_from_ballots(
     alloc: Global,
     ward: &Ward,
@@ -158,7 +159,7 @@ fn add_from_ballots(
     Ok(true)
 }
 
-/// Does the same as `add_from_ballots`, with the papers and lots of a ward in count. Returns `AllocError` if an allocation fails.
+/// Looks up the papers and lots of a ward in count and calls `add_from_ballots`. Returns `AllocError` if an allocation fails.
 fn add_in_count(
     alloc: Global,
     rows: &Rows,
@@ -180,7 +181,7 @@ fn add_in_count(
     }
 }
 
-/// Returns whether no stage of a ward is done and no lot is recorded.
+/// Returns whether a ward has no completed stages and no recorded lots.
 fn is_uncounted(rows: &Rows, ward: &Ward) -> bool
     requires { MapsAreSorted (state_of rows.now) }
     ensures { result ≡ is_uncounted (election_of (state_of rows.now) (ward_entry ward.now)) }
@@ -189,8 +190,8 @@ fn is_uncounted(rows: &Rows, ward: &Ward) -> bool
     (ward.done == 0) & undrawn
 }
 
-/// Adds the count of a ward, as far as it is done, to the tabulation. Returns whether the count is right; a ward without a count
-/// must have no stages done and no lots. Returns `AllocError` if an allocation fails.
+/// Adds the completed stages of a ward's count to the tabulation. Returns whether the count is correct; a ward without a count
+/// must have no completed stages and no lots. Returns `AllocError` if an allocation fails.
 fn add_count(
     alloc: Global,
     rows: &Rows,
@@ -209,8 +210,8 @@ fn add_count(
     Ok(is_uncounted(rows, ward))
 }
 
-/// Returns the tabulation of these wards' counts if all of them are right, or `None` if any of them isn't. Returns `AllocError`
-/// if an allocation fails.
+/// Returns the tabulation of the given wards' counts if all of them are correct, or `None` if any of them isn't. Returns
+/// `AllocError` if an allocation fails.
 fn tabulation_in(
     alloc: Global,
     rows: &Rows,
@@ -239,14 +240,14 @@ fn are_of_wards(rows: &Rows, lots: &[DrawnLot]) -> bool
     lots.iter().all(|lot| has_ward(rows, lot.ward))
 }
 
-/// Returns the tabulation of the counts of all wards, for comparison by `is_tabulated`, or `None` unless lots belong to existing
-/// wards and the counts are as the rows claim.
+/// Returns the tabulation of the counts of all wards, for comparison by `is_tabulated`. Returns `None` unless all lots belong to
+/// existing wards and the counts match what the rows claim.
 ///
-/// In each contested ward that was sealed, the count of its papers with its lots must have the stages that are done. Each of its
-/// lots must be for a stage, no later than the next one, that needed or needs a lot, and must name one of the candidates tied. If
+/// In each contested ward that has been sealed, counting its papers with its lots must yield the completed stages. Each of its
+/// lots must be for a stage, no later than the next one, that needed or needs a lot, and must name one of the tied candidates. If
 /// the ward is declared, the count must be finished. In any other ward, no stage may be done and no lot recorded. This is the
-/// seventh condition on the rows of an office, given that its tables are in key order without duplicates and meet the first and
-/// fourth conditions. Returns `AllocError` if an allocation fails.
+/// seventh condition on the rows of an office, assuming that its tables are in key order without duplicates and meet the first
+/// and fourth conditions. Returns `AllocError` if an allocation fails.
 pub fn all_counted(alloc: Global, rows: &Rows) -> Result<Option<Tabulation>, AllocError>
     requires rise { MapsAreSorted (state_of rows.now) }
     requires in_range { all_in_range (state_of rows.now) ≡ true }

@@ -14,7 +14,7 @@ use register::agreement::{clerks_of, keyings_are_by_clerks};
 use register::{Batch, Candidate, DrawnLot, JudgedPaper, KeyedPaper, ThirdClerk, Ward};
 use std::cmp::Ordering;
 
-/// The key of a keying: a batch, a round and a clerk.
+/// The key of a keying: batch, round and clerk.
 #[derive(Clone, Copy)]
 struct KeyingKey {
     batch: u32,
@@ -22,7 +22,7 @@ struct KeyingKey {
     clerk: u32,
 }
 
-/// The keyings of a batch in a round, ordered by clerk number; a missing one is empty.
+/// The keyings of a batch in a given round, ordered by clerk number; a missing keying is empty.
 #[derive(Clone, Copy)]
 pub(crate) struct RoundKeyings<'a> {
     pub(crate) first: &'a [KeyedPaper],
@@ -96,7 +96,7 @@ impl Row<u32> for DrawnLot {
     }
 }
 
-/// Returns the ward with this number.
+/// Returns the ward with the given number.
 pub fn ward_at(rows: &Rows, number: u32) -> Option<&Ward>
     requires { MapsAreSorted (state_of rows.now) }
     ensures { option_map ward_entry (option_copied result) ≡ ward_at (state_of rows.now) number }
@@ -104,7 +104,7 @@ pub fn ward_at(rows: &Rows, number: u32) -> Option<&Ward>
     run_of(&rows.wards, &number).first()
 }
 
-/// Returns whether a ward with this number exists.
+/// Returns whether a ward with the given number exists.
 pub(crate) fn has_ward(rows: &Rows, number: u32) -> bool
     requires { MapsAreSorted (state_of rows.now) }
     ensures { result ≡ is_some (ward_at (state_of rows.now) number) }
@@ -120,7 +120,7 @@ pub fn candidates_of(rows: &Rows, ward: u32) -> &[Candidate]
     run_of(&rows.candidates, &ward)
 }
 
-/// Returns the batch with this number.
+/// Returns the batch with the given number.
 pub(crate) fn batch_at(rows: &Rows, number: u32) -> Option<&Batch>
     requires { MapsAreSorted (state_of rows.now) }
     ensures { option_map batch_entry (option_copied result) ≡ batch_at (state_of rows.now) number }
@@ -128,7 +128,7 @@ pub(crate) fn batch_at(rows: &Rows, number: u32) -> Option<&Batch>
     run_of(&rows.batches, &number).first()
 }
 
-/// Returns whether a batch with this number exists.
+/// Returns whether a batch with the given number exists.
 pub(crate) fn has_batch(rows: &Rows, number: u32) -> bool
     requires { MapsAreSorted (state_of rows.now) }
     ensures { result ≡ is_some (batch_at (state_of rows.now) number) }
@@ -136,7 +136,7 @@ pub(crate) fn has_batch(rows: &Rows, number: u32) -> bool
     batch_at(rows, number).is_some()
 }
 
-/// Returns the row of a batch's third clerk, if one is assigned.
+/// Returns the row for a batch's third clerk, if one is assigned.
 fn third_row(rows: &Rows, batch: u32) -> Option<&ThirdClerk>
     requires { MapsAreSorted (state_of rows.now) }
     ensures { option_map third_entry (option_copied result) ≡ third_at (state_of rows.now) batch }
@@ -158,7 +158,7 @@ pub fn third_at(rows: &Rows, batch: u32) -> Option<ThirdClerk>
     }
 }
 
-/// Returns the papers keyed from a batch, in all rounds and by all clerks.
+/// Returns the papers keyed for a batch, in all rounds and by all clerks.
 pub(crate) fn papers_of(rows: &Rows, batch: u32) -> &[KeyedPaper]
     requires { MapsAreSorted (state_of rows.now) }
     ensures { map keyed_entry result.now ≡ papers_of (state_of rows.now) batch }
@@ -166,7 +166,7 @@ pub(crate) fn papers_of(rows: &Rows, batch: u32) -> &[KeyedPaper]
     run_of(&rows.keyings, &batch)
 }
 
-/// Returns a clerk's keying of a batch in a round, in paper order.
+/// Returns the given clerk's keying of a batch in the given round, in paper order.
 pub fn keying_of(rows: &Rows, batch: u32, round: u32, clerk: u32) -> &[KeyedPaper]
     requires { MapsAreSorted (state_of rows.now) }
     ensures { map keyed_entry result.now ≡ keying_of (state_of rows.now) batch round clerk }
@@ -179,7 +179,7 @@ pub fn keying_of(rows: &Rows, batch: u32, round: u32, clerk: u32) -> &[KeyedPape
     run_of(&rows.keyings, &key)
 }
 
-/// Returns a clerk's keying of a batch in a round; empty if there is no such clerk.
+/// Returns the given clerk's keying of a batch in the given round, or an empty one if there is no such clerk.
 fn keying_by(rows: &Rows, batch: u32, round: u32, clerk: Option<u32>) -> &[KeyedPaper]
     requires { MapsAreSorted (state_of rows.now) }
     ensures { map keyed_entry result.now ≡ keying_by (state_of rows.now) batch round clerk }
@@ -190,7 +190,7 @@ fn keying_by(rows: &Rows, batch: u32, round: u32, clerk: Option<u32>) -> &[Keyed
     }
 }
 
-/// Returns the keyings of a batch in a round by its two or three clerks, ordered by clerk number.
+/// Returns the keyings of a batch in the given round by its two or three clerks, ordered by clerk number.
 pub(crate) fn keyings_in<'a>(rows: &'a Rows, batch: &Batch, round: u32) -> RoundKeyings<'a>
     requires { MapsAreSorted (state_of rows.now) }
     ensures { of_three (map keyed_entry result.first.now) (map keyed_entry result.second.now) (map keyed_entry result.third.now) ≡ keyings_in (state_of rows.now) (batch_entry batch.now) round }

@@ -1,5 +1,5 @@
-//! Runs of rows: in a list in key order, the rows with the same key, or with the same prefix of a key, are adjacent. They are found
-//! by bisection.
+//! Runs of rows. In a list in key order, the rows with the same key, or with the same key prefix, are adjacent, and are found by
+//! bisection.
 
 ghost use Rattle.std.specs.Prelude.{◌≡◌};
 ghost use Rattle.std.specs.List.{filter};
@@ -13,12 +13,13 @@ use std::cmp::Ordering;
 pub(crate) trait Row<K> {
     ghost compared: { Self → K → Ordering };
 
-    /// Returns how the row compares with a key: it sorts before the rows with that key, is one of them, or sorts after them.
+    /// Returns how the row compares with the given key: it sorts before the rows with that key, is one of them, or sorts after
+    /// them.
     fn compared(&self, key: &K) -> Ordering
         ensures { result ≡ compared self.now key.now };
 }
 
-/// Returns the rows with a key, given rows in key order.
+/// Returns the rows with the given key. The rows must be in key order.
 pub(crate) fn run_of<'a, K, T: Row<K>>(rows: &'a [T], key: &K) -> &'a [T]
     requires { IsNonDecreasingBy (λ x. ordering_index (T.compared x key.now)) rows.now }
     ensures { result.now ≡ filter (λ x. is_eq (T.compared x key.now)) rows.now }

@@ -1,7 +1,7 @@
-//! Keyed papers, and the batches that they belong to.
+//! Keyed papers, and the batches to which they belong.
 //!
-//! First, every keyed paper must belong to an existing batch. Then, batch by batch, the papers are read with the batch's columns,
-//! and the rounds are checked one by one; each keying is a run of the rows.
+//! First, every keyed paper must belong to an existing batch. Then, batch by batch, the papers are read using the batch's columns,
+//! and the rounds are checked one by one; each keying is a run of rows.
 
 ghost use Rattle.std.specs.Prelude.{◌≡◌, ◌&&◌, ◌||◌, not, true, nat_le, map, is_some, option_map, IfSome, string_bytes};
 ghost use Rattle.std.specs.List.{list_all};
@@ -21,7 +21,7 @@ use register::keyings::is_its_clerk;
 use register::marks::{columns_of, is_readable};
 use register::{Batch, KeyedPaper, ThirdClerk};
 
-/// Returns whether a batch with this number exists. The batch `known` is known to exist, and isn't looked up.
+/// Returns whether a batch with the given number exists. The batch `known` is known to exist and isn't looked up.
 fn is_there(rows: &Rows, known: Option<u32>, number: u32) -> bool
     requires rise { MapsAreSorted (state_of rows.now) }
     requires known { IfSome known (λ n. is_some (batch_at (state_of rows.now) n) ≡ true) }
@@ -34,7 +34,7 @@ fn is_there(rows: &Rows, known: Option<u32>, number: u32) -> bool
 }
 
 /// Returns whether every keyed paper belongs to an existing batch. The papers of a batch are adjacent, so each batch is looked up
-/// once.
+/// only once.
 fn are_of_batches(rows: &Rows, keyings: &[KeyedPaper]) -> bool
     requires { MapsAreSorted (state_of rows.now) }
     ensures { result ≡ list_all (λ k. is_some (batch_at (state_of rows.now) k.batch)) keyings.now }
@@ -50,7 +50,7 @@ fn are_of_batches(rows: &Rows, keyings: &[KeyedPaper]) -> bool
 }
 
 /// Returns whether a paper of a batch is keyed in a round no later than the current one, by one of the batch's clerks, with marks
-/// that can be read with these columns.
+/// that can be read with the given columns.
 fn is_keyed_for(
     batch: &Batch,
     third: &Option<ThirdClerk>,
@@ -102,7 +102,7 @@ fn are_numbered(keying: &[KeyedPaper]) -> bool
     true
 }
 
-/// Returns whether a keying is missing, or consists of exactly the papers from 1 to `size`, in order.
+/// Returns whether a keying is missing or consists of exactly the papers from 1 to `size`, in order.
 fn is_whole_if_keyed(size: u32, keying: &[KeyedPaper]) -> bool
     ensures { result ≡ (not (is_keyed (map keyed_entry keying.now)) || is_whole size (map keyed_entry keying.now)) }
 {
@@ -122,7 +122,7 @@ fn are_whole(size: u32, keyings: &RoundKeyings) -> bool
     first & (second & is_whole_if_keyed(size, keyings.third))
 }
 
-/// Returns whether every keying of a round is whole and, if the round is an earlier one, at least two keyings exist and no two are
+/// Returns whether every keying of a round is complete and, if the round is an earlier one, at least two keyings exist and no two are
 /// equal.
 fn is_round_of(rows: &Rows, batch: &Batch, round: u32) -> bool
     requires { MapsAreSorted (state_of rows.now) }
@@ -134,7 +134,7 @@ fn is_round_of(rows: &Rows, batch: &Batch, round: u32) -> bool
     whole & (current | differ(keyings.first, keyings.second, keyings.third))
 }
 
-/// Returns whether every round of a batch, from the current one down to the first, is as a state requires.
+/// Returns whether every round of a batch, from the current one back to the first, meets the conditions for a state.
 fn are_rounds(rows: &Rows, batch: &Batch) -> bool
     requires { MapsAreSorted (state_of rows.now) }
     ensures { result ≡ are_rounds_to (state_of rows.now) (batch_entry batch.now) batch.now.round }
@@ -147,7 +147,7 @@ fn are_rounds(rows: &Rows, batch: &Batch) -> bool
     true
 }
 
-/// Returns whether the keyed papers and the rounds of a batch are as a state requires.
+/// Returns whether the keyed papers and the rounds of a batch meet the conditions for a state.
 fn is_rightly_keyed(rows: &Rows, batch: &Batch) -> bool
     requires { MapsAreSorted (state_of rows.now) }
     ensures { result ≡ is_rightly_keyed (state_of rows.now) (batch_entry batch.now) }
@@ -164,8 +164,8 @@ fn are_rightly_keyed(rows: &Rows, batches: &[Batch]) -> bool
 }
 
 /// Returns whether every keyed paper belongs to an existing batch, one of its rounds and one of its clerks, and has marks that can
-/// be read; whether every keying is whole; and whether the keyings of each earlier round differ. This is the fourth condition on
-/// the rows of an office, given that its tables are in key order without duplicates.
+/// be read; whether every keying is complete; and whether the keyings of each earlier round differ. This is the fourth condition on
+/// the rows of an office, assuming that its tables are in key order without duplicates.
 pub fn all_keyed(rows: &Rows) -> bool
     requires { MapsAreSorted (state_of rows.now) }
     ensures { result ≡ all_keyed (state_of rows.now) }

@@ -1,33 +1,33 @@
-//! Checks whether rows are the state of an office.
+//! Checks whether rows form the state of an office.
 //!
-//! When an office is opened, its tables are read into `Rows`, and each function here returns whether the rows meet one
-//! condition. An office opens only if all of them are met.
+//! When an office is opened, its tables are read into `Rows`, and each function here returns whether the rows meet one of the
+//! conditions. An office opens only if they meet all of them.
 //!
 //! Each condition is defined for a state in `register`'s `specs/StateConditions.antt`, for example `all_in_range`. The function
-//! of the same name, `all_in_range(&rows)`, checks it for `state_of rows`. `all_counted` recounts once what is done of each
-//! count. If the counts are right, it returns their tabulation; it returns `AllocError` if an allocation fails. `is_tabulated`
-//! compares the rows of bundles and figures with that tabulation, one by one: they must be the tabulation of the state
-//! (`IsTabulationOf`, in `specs/Tabulated.antt`). No list is searched once per row of another list. Lists in key order are
-//! walked side by side, or the rows with a key, which are adjacent, are found by bisection (`key_ranges`, `finding`). There are
-//! two exceptions. All batches are scanned once per ward in count, of which there are at most 99. The papers of a batch, of
-//! which there are at most 500, are scanned once per verdict on one of them.
+//! of the same name, `all_in_range(&rows)`, checks it for `state_of rows`. `all_counted` recounts the completed stages of each
+//! count, once. If the counts are correct, it returns their tabulation; it returns `AllocError` if an allocation fails.
+//! `is_tabulated` compares the rows of bundles and figures with that tabulation, one by one: they must be the tabulation of the
+//! state (`IsTabulationOf`, in `specs/Tabulated.antt`). No list is searched once per row of another list. Lists in key order
+//! are walked side by side, or the rows with the same key, which are adjacent, are found by bisection (`key_ranges`,
+//! `finding`). There are two exceptions. All batches are scanned once per ward in count, of which there are at most 99. The
+//! papers of a batch, of which there are at most 500, are scanned once per verdict on one of them.
 //!
-//! The conditions also have numbers, which documents use to refer to them: `item1` to `item8`. Each returns a `bool`; that of
-//! `item7` and `item8` is in a `Result`.
+//! The conditions also have numbers, by which documents refer to them: `item1` to `item8`. Each function returns a `bool`;
+//! `item7` and `item8` wrap it in a `Result`.
 //!
-//! `are_same` compares the rows of two offices, and `finding` returns the rows with a key to callers that iterate over the
-//! rows of an office.
+//! `are_same` compares the rows of two offices, and `finding` returns the rows with a given key to callers that iterate over
+//! the rows of an office.
 #![tactic(auto)]
 
 // Rows.
 pub mod rows;
 // Runs of rows, found by bisection.
 mod key_ranges;
-// Entries, found in the same way.
+// Entries, also found by bisection.
 pub mod finding;
 // Comparing two offices.
 mod sameness;
-// The conditions, and what they read: the subjects of receipts, and the numbers in them.
+// The conditions, and what they read: the subjects of receipts, and the numbers in those subjects.
 mod batches;
 mod counts;
 mod keyings;

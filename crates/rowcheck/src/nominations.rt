@@ -1,7 +1,7 @@
 //! Wards and their candidates.
 //!
-//! The two lists are walked once, side by side: the candidates of the next ward are at the front of the remaining
-//! candidates, and at the end none remain.
+//! The two lists are walked once, side by side: the next ward's candidates are always at the front of the remaining
+//! candidates, and none are left over at the end.
 
 ghost use Rattle.std.specs.Prelude.{◌≡◌, ◌==◌, map, take_while};
 ghost use Rattle.std.specs.List.{prefix_len};
@@ -36,7 +36,7 @@ fn run_length(ward: u32, candidates: &[Candidate]) -> usize
         .count()
 }
 
-/// Splits off the candidates of a ward at the front; returns them, and the rest.
+/// Splits the given ward's candidates off the front of the list; returns them and the rest.
 fn split_run(ward: u32, candidates: &[Candidate]) -> (&[Candidate], &[Candidate])
     ensures run { result.0.now ≡ take_while (λ c. c.ward == ward) candidates.now }
     ensures rest { result.1.now ≡ skip_while (λ c. c.ward == ward) candidates.now }
@@ -61,7 +61,7 @@ fn are_nominated(wards: &[Ward], candidates: &[Candidate]) -> bool
 
 /// Returns whether every candidate belongs to an existing ward, and every ward has the candidates that its phase requires:
 /// more candidates than seats during keying, at least one candidate once the ward is sealed. This is the second condition
-/// on the rows of an office, given that its wards and candidates are in key order without duplicates.
+/// on the rows of an office, assuming that its wards and candidates are in key order without duplicates.
 pub fn all_nominated(rows: &Rows) -> bool
     requires { MapsAreSorted (state_of rows.now) }
     ensures { result ≡ all_nominated (state_of rows.now) }

@@ -11,9 +11,9 @@ use crate::rows::Rows;
 use crate::tabulation::is_tabulated;
 use std::alloc::{AllocError, Global};
 
-/// Returns whether the counts are as the rows claim: the seventh condition, for rows that meet the first and fourth
-/// conditions. [`all_counted`](crate::all_counted) checks the same, and returns the tabulation of the counts. Returns
-/// `AllocError` if an allocation fails.
+/// Returns whether the counts match what the rows claim: the seventh condition, for rows that meet the first and fourth
+/// conditions. [`all_counted`](crate::all_counted) performs the same check and returns the tabulation of the counts.
+/// Returns `AllocError` if an allocation fails.
 pub fn item7(alloc: Global, rows: &Rows) -> Result<bool, AllocError>
     requires rise { MapsAreSorted (state_of rows.now) }
     requires in_range { all_in_range (state_of rows.now) ≡ true }
@@ -25,7 +25,7 @@ pub fn item7(alloc: Global, rows: &Rows) -> Result<bool, AllocError>
 }
 
 /// Returns whether the bundles and figures are those of the counts: the eighth condition, for rows that meet the first,
-/// fourth and seventh conditions. This counts again; a caller that has already counted can use
+/// fourth and seventh conditions. This function recounts; a caller that has already done so can use
 /// [`is_tabulated`](crate::is_tabulated) instead. Returns `AllocError` if an allocation fails.
 pub fn item8(alloc: Global, rows: &Rows) -> Result<bool, AllocError>
     requires rise { MapsAreSorted (state_of rows.now) }

@@ -7,8 +7,8 @@ ghost use Rattle.std.specs.Str.Parse.{digits_value};
 ghost use Rattle.register.specs.Ranges.{is_between};
 ghost use Rattle.register.specs.Subjects.{is_plain_number, are_plain_numbers, is_space};
 
-/// Returns the number that digits represent, or `None` if there are other bytes or the number exceeds `most`. Stops
-/// reading once the number exceeds `most`.
+/// Returns the number that the given digits represent, or `None` if there are other bytes or the number exceeds
+/// `most`. Stops reading once the number exceeds `most`.
 fn number_up_to(most: u32, digits: &[u8]) -> Option<u32>
     requires { most < 10000 }
     ensures { result ≡ (if all_ascii_digits digits.now && nat_le (digits_value 10 digits.now) most then Some (digits_value 10 digits.now) else None) }
@@ -27,7 +27,7 @@ fn number_up_to(most: u32, digits: &[u8]) -> Option<u32>
     Some(so_far)
 }
 
-/// Returns whether a text consists of digits and its number is in a range.
+/// Returns whether a text consists of digits and represents a number in the given range.
 fn is_number_within(low: u32, high: u32, digits: &[u8]) -> bool
     requires { high < 10000 }
     ensures { result ≡ (all_ascii_digits digits.now && is_between low high (digits_value 10 digits.now)) }
@@ -39,8 +39,8 @@ fn is_number_within(low: u32, high: u32, digits: &[u8]) -> bool
 }
 
 #[tactic(auto, unfolding(register::specs::Subjects::is_plain_number))]
-/// Returns whether a text is a plain number in a range: digits, the first of which isn't 0. Reads at most five bytes,
-/// however long the text is.
+/// Returns whether a text is a plain number in the given range: digits, the first of which isn't 0. Reads at most
+/// five bytes, no matter how long the text is.
 pub(crate) fn is_plain_number(low: u32, high: u32, text: &[u8]) -> bool
     requires { high < 10000 }
     ensures { result ≡ is_plain_number low high text.now }
@@ -56,7 +56,7 @@ fn first_space(text: &[u8]) -> Option<usize>
     text.iter().position(|b| *b == b' ')
 }
 
-/// Splits a text at the first space; returns what precedes it and what follows it.
+/// Splits a text at the first space; returns the part before it and the part after it.
 pub(crate) fn parted(text: &[u8]) -> (&[u8], &[u8])
     ensures before { result.0.now ≡ before_first is_space text.now }
     ensures after { result.1.now ≡ after_first is_space text.now }
@@ -67,7 +67,7 @@ pub(crate) fn parted(text: &[u8]) -> (&[u8], &[u8])
     }
 }
 
-/// Returns whether a text consists of two plain numbers, separated by a space, each in its range.
+/// Returns whether a text consists of two plain numbers, separated by a space, each within its range.
 pub(crate) fn are_plain_numbers(low: u32, high: u32, least: u32, most: u32, text: &[u8]) -> bool
     requires first { high < 10000 }
     requires second { most < 10000 }

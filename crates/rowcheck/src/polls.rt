@@ -18,7 +18,7 @@ use register::wards::is_contested;
 use register::{Ballots, Batch, Phase, Ward};
 use std::alloc::{AllocError, Global};
 
-/// Returns whether a ward in this phase has been sealed.
+/// Returns whether a ward in the given phase has been sealed.
 fn is_counted(phase: Phase) -> bool
     ensures { result ≡ is_counted phase }
 {
@@ -48,7 +48,7 @@ fn is_settled(rows: &Rows, batch: &Batch) -> bool
     is_keyed(papers) & judged
 }
 
-/// Returns whether a batch is settled or belongs to a different ward.
+/// Returns whether a batch is settled or doesn't belong to the given ward.
 fn is_settled_for(rows: &Rows, ward: u32, batch: &Batch) -> bool
     requires { MapsAreSorted (state_of rows.now) }
     ensures { result ≡ is_settled_for (state_of rows.now) ward (batch_entry batch.now) }
@@ -68,7 +68,7 @@ fn are_settled(rows: &Rows, ward: u32, batches: &[Batch]) -> bool
         .all(|batch| is_settled_for(rows, ward, batch))
 }
 
-/// Returns whether every batch of a ward is settled, if the ward's count has begun.
+/// Returns whether every batch of a ward is settled, provided that the ward's count has begun.
 fn is_agreed(rows: &Rows, ward: &Ward) -> bool
     requires { MapsAreSorted (state_of rows.now) }
     ensures { result ≡ is_agreed (election_of (state_of rows.now) (ward_entry ward.now)) }
@@ -86,9 +86,9 @@ fn are_agreed(rows: &Rows, wards: &[Ward]) -> bool
     wards.iter().all(|ward| is_agreed(rows, ward))
 }
 
-/// Returns whether in every contested ward that has been sealed, all batches are taken and all their doubtful papers
-/// have verdicts. This is the sixth condition on the rows of an office, given that its tables are in key order
-/// without duplicates.
+/// Returns whether, in every contested ward that has been sealed, all batches are taken and all their doubtful
+/// papers have verdicts. This is the sixth condition on the rows of an office, assuming that its tables are in key
+/// order without duplicates.
 pub fn all_agreed(rows: &Rows) -> bool
     requires { MapsAreSorted (state_of rows.now) }
     ensures { result ≡ all_agreed (state_of rows.now) }
@@ -118,7 +118,7 @@ fn add_batch(
     )
 }
 
-/// Returns the papers of those batches that belong to this ward. Returns `AllocError` if an allocation fails.
+/// Returns the papers of those batches that belong to the given ward. Returns `AllocError` if an allocation fails.
 fn ballots_among(
     alloc: Global,
     rows: &Rows,
@@ -138,7 +138,7 @@ fn ballots_among(
     Ok(ballots)
 }
 
-/// Returns the papers of a ward, read with these columns. Returns `AllocError` if an allocation fails.
+/// Returns the papers of a ward, read with the given columns. Returns `AllocError` if an allocation fails.
 pub(crate) fn ballots_of(
     alloc: Global,
     rows: &Rows,

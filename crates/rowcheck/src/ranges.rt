@@ -17,11 +17,11 @@ use register::{Batch, Candidate, DrawnLot, JudgedPaper, KeyedPaper, Receipt, Thi
 /// The highest code of a verdict.
 const LAST_CODE: u32 = 5;
 
-/// A row with numbers and texts that have ranges.
+/// A row whose numbers and texts must be within certain ranges.
 trait Ranged {
     ghost is_ranged: { Self → Bool };
 
-    /// Returns whether all of them are in range.
+    /// Returns whether all of the row's numbers and texts are within range.
     fn is_in_range(&self) -> bool
         ensures { result ≡ is_ranged self.now };
 }
@@ -75,7 +75,7 @@ impl Ranged for KeyedPaper {
         let batch = is_batch_number(self.batch);
         let round = is_round(self.round);
         let clerk = is_clerk(self.clerk);
-        // the marks are valid UTF-8, as in every `String`
+        // the marks are valid UTF-8, as every `String` is
         let _marks = self.marks.as_str();
         batch & (round & (clerk & is_paper_number(self.paper)))
     }
@@ -102,7 +102,7 @@ impl Ranged for DrawnLot {
     }
 }
 
-/// Returns whether a text can be the subject of this actor's receipt.
+/// Returns whether a text can be the subject of a receipt for the given actor.
 fn is_about(actor: u32, subject: &str) -> bool
     ensures { result ≡ is_about actor subject.now }
 {
@@ -129,7 +129,8 @@ fn are_in_range<T: Ranged>(rows: &[T]) -> bool
     rows.iter().all(|row| row.is_in_range())
 }
 
-/// Returns whether numbers, names, ids, phases, subjects and replies are in range: the first condition on the rows of an office.
+/// Returns whether numbers, names, ids, phases, subjects and replies are in range. This is the first condition on the rows of an
+/// office.
 pub fn all_in_range(rows: &Rows) -> bool
     ensures { result ≡ all_in_range (state_of rows.now) }
 {

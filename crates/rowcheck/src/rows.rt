@@ -5,8 +5,9 @@ use register::{
     ThirdClerk, Ward,
 };
 
-/// The rows of an office; the rows of each table are in key order. Their numbers and texts are in range only if
-/// `all_in_range` confirms it; for the rows of bundles and figures, it is `is_tabulated` that confirms it.
+/// The rows of an office; the rows of each table are in key order. Their numbers and texts are known to be in
+/// range only once `all_in_range` has confirmed it; for the rows of bundles and figures, `is_tabulated`
+/// confirms it.
 #[derive(Drop)]
 pub struct Rows {
     pub wards: Vec<Ward>,

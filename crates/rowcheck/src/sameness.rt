@@ -5,8 +5,8 @@ ghost use Rattle.rowcheck.specs.States.{state_of};
 
 use crate::rows::Rows;
 
-/// Returns whether the rows of two offices represent the same state. The tabulation of the counts follows from the state
-/// and isn't compared.
+/// Returns whether the rows of two offices represent the same state. The tabulation of the counts isn't compared,
+/// because it is determined by the state.
 pub fn are_same(rows: &Rows, others: &Rows) -> bool
     ensures same { result ≡ true → state_of rows.now ≡ state_of others.now }
     ensures whole { state_of rows.now ≡ state_of others.now → result ≡ true }

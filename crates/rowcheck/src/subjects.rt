@@ -52,7 +52,7 @@ fn is_about_keying(word: &[u8], numbers: &[u8]) -> bool
 }
 
 /// Returns whether a word and the numbers after it can be the subject of an office receipt. The numbers are read only if
-/// the word requires them.
+/// the word requires numbers.
 fn is_of_office(word: &[u8], numbers: &[u8]) -> bool
     ensures { result ≡ is_of_office word.now numbers.now }
 {

@@ -9,7 +9,7 @@ use register::Tabulation;
 
 /// Returns whether the rows of the tabulation are exactly what was counted, one by one and in the same order. This is
 /// the eighth condition on the rows of an office, provided that what was counted is the tabulation of the state that
-/// the rows represent, as returned by `all_counted` for the same rows.
+/// the rows represent, as `all_counted` returns it for the same rows.
 pub fn is_tabulated(rows: &Rows, counted: &Tabulation) -> bool
     ensures compares { IsTrue result ↔ (tabulated rows.now ≡ tabulation_entries counted.now) }
     ensures judges { tabulation_entries counted.now ≡ tabulation_of (state_of rows.now) → IsTrue result ↔ IsTabulationOf (tabulated rows.now) (state_of rows.now) }

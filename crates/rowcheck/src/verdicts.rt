@@ -1,4 +1,4 @@
-//! Verdicts, and the doubtful papers that they decide.
+//! Verdicts, and the doubtful papers on which they decide.
 
 ghost use Rattle.std.specs.Prelude.{◌≡◌, map, is_some};
 ghost use Rattle.std.specs.List.{list_all};
@@ -26,8 +26,8 @@ fn are_of_batches(rows: &Rows, verdicts: &[JudgedPaper]) -> bool
     verdicts.iter().all(|judged| has_batch(rows, judged.batch))
 }
 
-/// Returns whether a verdict is on a doubtful paper of a keying, and either accepts it with marks that make it valid, or
-/// rejects it without marks.
+/// Returns whether a verdict is on a doubtful paper of the given keying, and either accepts the paper with marks that make
+/// it valid, or rejects it without marks.
 fn is_verdict_on(columns: Columns, papers: &[KeyedPaper], judged: &JudgedPaper) -> bool
     ensures { result ≡ is_verdict_on columns (map keyed_entry papers.now) (judged_entry judged.now) }
 {
@@ -47,7 +47,7 @@ fn are_verdicts_on(columns: Columns, papers: &[KeyedPaper], verdicts: &[JudgedPa
         .all(|judged| is_verdict_on(columns, papers, judged))
 }
 
-/// Returns the agreed papers of a batch; empty if it isn't taken.
+/// Returns the agreed papers of a batch, or no papers if the batch isn't taken.
 fn taken_papers<'a>(rows: &'a Rows, batch: &Batch) -> &'a [KeyedPaper]
     requires { MapsAreSorted (state_of rows.now) }
     ensures { map keyed_entry result.now ≡ taken_papers (state_of rows.now) (batch_entry batch.now) }
@@ -56,7 +56,7 @@ fn taken_papers<'a>(rows: &'a Rows, batch: &Batch) -> &'a [KeyedPaper]
     agreed(keyings.first, keyings.second, keyings.third)
 }
 
-/// Returns whether every verdict on a paper of a batch is on a doubtful paper among the batch's agreed papers.
+/// Returns whether every verdict on a paper of a batch is on one of the doubtful papers among the batch's agreed papers.
 fn is_judged(rows: &Rows, batch: &Batch) -> bool
     requires { MapsAreSorted (state_of rows.now) }
     ensures { result ≡ is_judged (state_of rows.now) (batch_entry batch.now) (verdicts_of (state_of rows.now) batch.now.number) }
@@ -77,7 +77,7 @@ fn are_judged(rows: &Rows, batches: &[Batch]) -> bool
 }
 
 /// Returns whether every verdict belongs to an existing batch that is taken, and is on one of its doubtful papers. This is
-/// the fifth condition on the rows of an office, given that its tables are in key order without duplicates.
+/// the fifth condition on the rows of an office, assuming that its tables are in key order without duplicates.
 pub fn all_judged(rows: &Rows) -> bool
     requires { MapsAreSorted (state_of rows.now) }
     ensures { result ≡ all_judged (state_of rows.now) }

@@ -1,11 +1,11 @@
 //! The page for a screen in the hall where votes are counted: markup, style and script in one text, with no external resources.
 //!
-//! [`page_text`] returns the page. It contains no data of an office, and is the same at any time: like any other client, it
-//! requests what it shows. [`policy_text`] returns the policy that limits what it can do in a browser. A server sends both in one
-//! response.
+//! [`page_text`] returns the page. It contains no office data, and is always the same: like any other client, it requests what it
+//! shows. [`policy_text`] returns the policy that limits what the page can do in a browser. A server sends both in one response.
 //!
-//! `specs/Page.antt` defines both from the same script and the same style, so the policy names those that are served. What the script
-//! does isn't specified: `docs/formats/screen-api.md` describes its requests, and `tools/try hall-screen` runs it.
+//! `specs/Page.antt` defines both from the same script and the same style, so the policy names the script and the style that are
+//! served. What the script does isn't specified: `docs/formats/screen-api.md` describes its requests, and `tools/try hall-screen`
+//! runs it.
 #![tactic(auto)]
 
 mod markup;

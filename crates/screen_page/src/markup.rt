@@ -40,7 +40,7 @@ const TAIL: &str = r#"
 "#;
 
 #[tactic(auto, unfolding(crate::specs::Page::page_of))]
-/// Returns the page with this style and this script. The only error is a failed allocation.
+/// Returns the page with the given style and script. The only error is a failed allocation.
 pub(crate) fn page_around(alloc: Global, style: &str, script: &str) -> Result<String, AllocError>
     ensures { IfOk result (λ text. string_bytes text ≡ page_of style.now script.now) }
 {

@@ -37,7 +37,7 @@ tails x y xs ys is = ap of is
     of (z ∷ zs) = zs
 
 module _ (settings : ServerSettingsEntry) where
-  -- ---- a client at a view, and another client that asks for the same at that view
+  -- ---- a client in a given view, and another client with the same request in that view
 
   none_sent : (view : OfficeState) (sent sent_too : List Request) → sent ≡ [] → sent_too ≡ [] → after view sent_too ≡ after view sent
   none_sent view sent sent_too none none_too = ap (after view) (none_too ∙ sym none)
@@ -76,13 +76,13 @@ module _ (settings : ServerSettingsEntry) where
 
   -- ---- a clerk's own exchanges
 
-  -- they are answered at the clerk's view, until one of them gets no answer
+  -- a clerk's own exchanges are answered in the clerk's view, until one of them gets no answer
   abbrev AnswersOwn : OfficeState → List Exchange → Type 0
   AnswersOwn view [] = ⊤
   AnswersOwn view (exchange ∷ own) =
       ((sent : List Request) × EndsSo exchange (IsServed (TellsFor settings.clients (Some exchange.got) view sent)) × AnswersOwn (after view sent) own) ⊎ IsUnanswered settings exchange
 
-  -- so two lists of them are answered alike at one view
+  -- so two lists of them are answered alike in the same view
   alike_at : (view : OfficeState) (own same : List Exchange) → AnswersOwn view own → AnswersOwn view same
       → map (λ (exchange : Exchange). exchange.got) own ≡ map (λ (exchange : Exchange). exchange.got) same → AreAnsweredAlike settings own same
   alike_at view [] [] run run_too is = refl
@@ -115,7 +115,7 @@ module _ (settings : ServerSettingsEntry) where
         subst (AnswersOwn view) (sym is) (inr (inr (subst (λ (listener : Listener). GetsClosedResponse listener settings exchange) client closed)))
     away_own view (exchange ∷ exchanges) own (closed, away) (client, free, clients) (inr (not, others)) = away_own view exchanges own away clients others
 
-    -- the first of a clerk's own exchanges was answered at the view
+    -- the first of a clerk's own exchanges was answered in the view
     answers_first : (view next : OfficeState) (exchange : Exchange) (later : List Exchange)
         → ((sent : List Request) × IsClientAnsweredAt settings view exchange sent × (next ≡ after view sent)) → AnswersOwn next later → AnswersOwn view (exchange ∷ later)
     answers_first view next exchange later (sent, inl (back, none), is_next) others = inr (inr (inl (inl back)))
@@ -127,13 +127,13 @@ module _ (settings : ServerSettingsEntry) where
     client_turn view next exchange free (inl it) = it
     client_turn view next exchange free (inr it) = absurd (free it.tells.entry it.tells.asks)
 
-    -- or the office had a fault
+    -- the office had a fault
     client_stop : (view : OfficeState) (exchange : Exchange) → AsksNoOrder settings.clients exchange.got → IsStoppedBySeen Clients state_of settings clerk view exchange
         → EndsSo exchange (IsServed TellsFault)
     client_stop view exchange free (inl (none, it)) = it
     client_stop view exchange free (inr (next, it)) = absurd (free it.tells.entry it.tells.asks)
 
-    -- the clerk's own exchanges, out of all that are answered in this way
+    -- the clerk's own exchanges, out of all those that are answered this way
     own_seen : (view : OfficeState) (exchanges own : List Exchange) → AnswersAsSeen state_of settings clerk view exchanges → AreClients settings.clients exchanges
         → AreOwn settings.clients clerk exchanges own → AnswersOwn view own
     own_seen view [] own seen clients none = subst (AnswersOwn view) (sym none) tt

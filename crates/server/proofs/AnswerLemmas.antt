@@ -1,4 +1,4 @@
--- Responses to reads: what each says, and what is cached of it.
+-- Responses to reads: what each says, and what is cached.
 use Rattle.std.proofs.Common.{◌≡◌, ◌∙◌, ◌⊎◌, ◌∷◌, ◌++◌, Bool, false, true, true≢false, ℕ, List, [], Option, Some, arith, inl, inr, refl, subst, suc, sym}
 use Rattle.std.specs.List.{Contains}
 use Rattle.std.proofs.lemmas.List.Elements.{All-push}
@@ -28,12 +28,12 @@ use Rattle.server.specs.Exchanges.{ChangesNothing, EndsSo, HasAnswered, KeepsRea
 
 -- ---- what a response says
 
--- a fault has a status of its own
+-- a fault has a distinct status
 told_fault : (number status : ℕ) (old new : Option (List ℕ)) (response : _) → IsTold (fault_response number) response → IsPut old new response (Answered status) → status ≡ 503
 told_fault number status old new response (inl is) put = put.0 ∙ is.status
 told_fault number status old new response (inr is) put = put.0 ∙ is.status
 
--- a request that changes nothing was answered, and the office is at the same state
+-- a request that changes nothing was answered, and the office is in the same state
 answered_still : (s : OfficeState) (asked : HttpRequestEntry) (answer : ResponseEntry) (closed : Bool) (st : State) → ChangesNothing asked → IsAnswered s asked answer closed st → IsOpenAt s closed st
 answered_still s (denied why) answer closed st still it = subst (λ (x : OfficeState). IsOpenAt x closed st) it.is.0 it.open_at
 answered_still s (shown clerk show) answer closed st still it = subst (λ (x : OfficeState). IsOpenAt x closed st) it.is.0 it.open_at
@@ -43,7 +43,7 @@ answered_still s (console show) answer closed st still it = subst (λ (x : Offic
 answered_still s (order entry) answer closed st still it = absurd still
 answered_still s (public its what) answer closed st still it = subst (λ (x : OfficeState). IsOpenAt x closed st) it.is.0 it.open_at
 
--- or the office had a fault, and was only read
+-- the office had a fault, and was only read
 failed_still : (s : OfficeState) (asked : HttpRequestEntry) (f : Fault) (closed : Bool) (st : State) → ChangesNothing asked → FaultLeaves s asked f closed st → IsReadAt s closed st
 failed_still s (denied why) f closed st still leaves = absurd leaves
 failed_still s (shown clerk show) f closed st still leaves = absurd leaves
@@ -194,7 +194,7 @@ module _ {S : Type 0} (settings : HttpSettingsEntry) (state_of : Held S → Stat
     clean = λ clean. clean;
   }
 
-  -- and then a wrong code is counted
+  -- then a wrong code is counted
   pub noted_still : (old : ServedOffice S) (exchange : Exchange) (new : OfficeValue S) (kept later : MemoryEntry) → later.reads ≡ kept.reads
       → ServesClient settings state_of old exchange (served_office new kept)
       → ServesClient settings state_of old exchange (served_office new later)
@@ -205,18 +205,18 @@ module _ {S : Type 0} (settings : HttpSettingsEntry) (state_of : Held S → Stat
     clean = it.clean;
   }
 
-  -- ---- what is cached of it
+  -- ---- what is cached
 
   behind : (s : OfficeState) (gone kept : List ReadEntry) → AreReadAt s (gone ++ kept) → AreReadAt s kept
   behind s [] kept right = right
   behind s (one ∷ gone) kept right = behind s gone kept (λ place entry within. right (suc place) entry (omega (arith, within)))
 
-  -- nothing more is cached
+  -- nothing else is cached
   pub keeps_same : (old new : OfficeValue S) (kept : MemoryEntry) (got : List ℕ) (asked : HttpRequestEntry) → Asks settings got asked → ChangesNothing asked
       → WhenOpenAt state_of old new (λ s. IsReadAt s new.closed (state_of new.held)) → KeepsReads settings state_of (served_office old kept) got (served_office new kept)
   keeps_same old new kept got asked asks still only = inr ((asked, asks, still), λ clean is_open s at right. (right, only clean is_open s at))
 
-  -- this response may be cached too, and the oldest ones were removed
+  -- the response may have been cached too, and the oldest ones were removed
   pub keeps_more : (old new : OfficeValue S) (kept later : MemoryEntry) (got : List ℕ) (what : Resource) (answer told : List ℕ) → told ≡ answer → Asks settings got (reading what)
       → WhenOpenAt state_of old new (λ s. IsRead s what answer) → WhenOpenAt state_of old new (λ s. IsReadAt s new.closed (state_of new.held))
       → (gone left : List ReadEntry) × (kept.reads ≡ gone ++ left) × ((later.reads ≡ left) ⊎ (later.reads ≡ left ++ record { what = what; answer = told } ∷ []))

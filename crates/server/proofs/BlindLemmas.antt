@@ -1,4 +1,4 @@
--- What a clerk is sent is determined by what the clerk sees.
+-- What a clerk sees determines what the clerk is sent.
 use Rattle.std.proofs.Common.{◌≡◌, ◌∙◌, ◌∷◌, ◌++◌, ◌==◌, ◌&&◌, Bool, Err, List, [], Ok, Some, None, Option, ap, cond, false, inl, inr, refl, string_bytes, subst, sym, true, ℕ}
 use Rattle.std.proofs.lemmas.Bool.{both_ways, eq-eqb, eqb-true}
 use Rattle.std.specs.Str.{bytes_eq}
@@ -48,13 +48,13 @@ under_no_order settings clerk bytes under entry asks =
 
 -- ---- how a request changes a view
 
--- the reply in an outcome doesn't depend on the state that the outcome changes
+-- the reply in an outcome doesn't depend on the state that the outcome applies to
 told_anywhere : (s t : OfficeState) (ruling : Ruling) → told_of (outcome_at s ruling) ≡ told_of (outcome_at t ruling)
 told_anywhere s t (accepts change reply) = refl
 told_anywhere s t (keeps reply) = refl
 told_anywhere s t (refuses why) = refl
 
--- a request that isn't from a clerk keys nothing
+-- a keying that isn't from a clerk changes nothing
 none_keyed : (s : OfficeState) (actor : ℕ) (id : List ℕ) (c : KeyingCommand) → is_clerk actor ≡ false → state_after s (step s actor id (command.Keying c)) ≡ s
 unfolding step decided
 none_keyed s actor id c no_clerk = go (is_id id) (receipt_at s actor id)
@@ -76,7 +76,7 @@ no_office actor is = go (is_office actor) refl
     go false other = other
     go true office = absurd (both_ways (is_clerk actor) (no_clerk actor office) is)
 
--- two equal numbers
+-- numbers that are equal as options are equal
 some_same : (n m : ℕ) → Some n ≡ Some m → n ≡ m
 some_same n m is = ap of is
   where
@@ -98,7 +98,7 @@ module _ (itself : SeenIsAlike) (alike : AlikeOfficesAnswerAlike) (seen : SeenIs
       ((alike clerk s view good (itself clerk s)).decided (string_bytes r.id) r.command) in
       told_anywhere s view (ruling_on s r) ∙ ap (λ (ruling : Ruling). told_of (outcome_at view ruling)) same
 
-  -- it leads to the next view
+  -- the clerk's own request leads to the next view
   own_seen : (s : OfficeState) (r : Request) → IsState s → r.actor ≡ clerk → seen_by clerk (after s (r ∷ [])) ≡ after (seen_by clerk s) (r ∷ [])
   own_seen s r state its =
       seen clerk s (r ∷ []) good state

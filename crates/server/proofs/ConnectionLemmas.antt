@@ -1,4 +1,4 @@
--- All connections that were accepted, while some are accepted, serviced or closed.
+-- What happened to all accepted connections, as connections are accepted, serviced and closed.
 use Rattle.std.proofs.Common.{◌≡◌, ◌<◌, ◌≤◌, ◌+◌, ◌-◌, ◌∙◌, ◌⊎◌, ◌∷◌, ◌++◌, ◌==◌, ℕ, Bool, List, [], None, Option, Some, All, AllPairs, IsSomeAnd, cond}
 use Rattle.std.proofs.Common.{ap, append-nil, arith, drop, eq-eqb, get_or, inl, inr, length, length-set, map, ne_eqb, option_map, refl, remove, set, subst, sym, suc, take}
 use Rattle.std.proofs.lemmas.Bool.{cases_eq, cases_order}
@@ -23,7 +23,7 @@ use Rattle.connections.specs.Closing.{MayBeClosed}
 use Rattle.server.specs.Servicing.{answer_of}
 use Rattle.server.specs.Exchanges.{Exchange}
 
--- ---- the exchanges under a number
+-- ---- the exchanges with a given number
 
 pub none_under : (number : ℕ) (exchanges : List Exchange) → All (λ (v : Exchange). v.number ≡ number → ⊥) exchanges → exchanges_of number exchanges ≡ []
 none_under number [] others = refl
@@ -34,13 +34,13 @@ none_under number (v ∷ vs) others =
 pub one_under : (number : ℕ) (exchange : Exchange) → exchange.number ≡ number → exchanges_of number (exchange ∷ []) ≡ exchange ∷ []
 one_under number exchange is = ap (λ (b : Bool). cond b (exchange ∷ []) []) (eq-eqb exchange.number number is)
 
--- further exchanges of other connections
+-- more exchanges of other connections
 pub same_under : (number : ℕ) (exchanges more : List Exchange) → All (λ (v : Exchange). v.number ≡ number → ⊥) more → exchanges_of number (exchanges ++ more) ≡ exchanges_of number exchanges
 same_under number exchanges more others =
     filter-append (λ (v : Exchange). v.number == number) exchanges more ∙ ap (λ (vs : List Exchange). exchanges_of number exchanges ++ vs)
     (none_under number more others) ∙ append-nil (exchanges_of number exchanges)
 
--- one more exchange of a connection that had none
+-- the first exchange of a connection
 pub first_under : (number : ℕ) (exchanges : List Exchange) (exchange : Exchange) → exchanges_of number exchanges ≡ [] → exchange.number ≡ number
     → exchanges_of number (exchanges ++ exchange ∷ []) ≡ exchange ∷ []
 first_under number exchanges exchange none is =
@@ -49,7 +49,7 @@ first_under number exchanges exchange none is =
 module _ {L : Type 0} (settings : ServerSettingsEntry) (stream : Stream L) where
   -- ---- one connection
 
-  -- what has happened to it so far, given its response and what was received from it
+  -- what has happened to a connection so far, given its response and what was received from it
   pub went_so : (came : Accepted L) (now : L) (got : List ℕ) (answer : Option PendingResponse) (belongs : List Exchange) → IsServedSo stream came.stream now got answer
       → HasExchangeFor (option_map (λ (a : PendingResponse). a.bytes.items) answer) belongs
       → ((exchange : Exchange) → belongs ≡ exchange ∷ [] → IsGathered settings stream came exchange) → HadExchange settings stream (record { came = came; last = now }) belongs
@@ -62,7 +62,7 @@ module _ {L : Type 0} (settings : ServerSettingsEntry) (stream : Stream L) where
       → belongs ≡ exchange ∷ [] → IsGathered settings stream connection.came exchange
   gathered_for connection belongs exchange went is = let it = subst (λ (vs : List Exchange). HadExchange settings stream connection vs) is went in it.0
 
-  -- it is unchanged, whatever exchanges others had
+  -- a connection is unchanged, whatever exchanges others had
   stands_still : (exchanges more : List Exchange) (connection : ServedConnection L) (client : Client L) → All (λ (v : Exchange). v.number ≡ client.number → ⊥) more
       → IsOpenConnection stream exchanges connection client
       → IsOpenConnection stream (exchanges ++ more) connection client
@@ -109,7 +109,7 @@ module _ {L : Type 0} (settings : ServerSettingsEntry) (stream : Stream L) where
     abbrev pub his_guest : ServedConnection L
     his_guest = get_or all_connections old.number (record { came = record { listener = old.listener; stream = old.stream }; last = old.stream })
 
-    -- all that were accepted, with its stream as it is now
+    -- all connections that were accepted, with the stream of the one in question as it is now
     abbrev pub all_now : List (ServedConnection L)
     all_now = set all_connections old.number (record { came = his_guest.came; last = new.stream })
 
@@ -130,7 +130,7 @@ module _ {L : Type 0} (settings : ServerSettingsEntry) (stream : Stream L) where
         ∙ ap (λ (c : Accepted L). set (map (λ (g : ServedConnection L). g.came) all_connections) old.number c) (sym came_at) ∙ set-get_or
         (map (λ (g : ServedConnection L). g.came) all_connections) old.number (record { listener = old.listener; stream = old.stream })
 
-    -- what happened to all connections, given what happened to this one
+    -- what happened to all connections, given what happened to the one in question
     pub went_still : AllHadExchanges settings stream all_connections exchanges → HadExchange settings stream (record { came = his_guest.came; last = new.stream })
         (exchanges_of old.number (exchanges ++ more))
         → AllHadExchanges settings stream all_now (exchanges ++ more)
@@ -157,7 +157,7 @@ module _ {L : Type 0} (settings : ServerSettingsEntry) (stream : Stream L) where
     abbrev StandsIn : Client L → Type 0
     StandsIn c = (connection : ServedConnection L) → IsOpenConnection stream (exchanges ++ more) (get_or all_now c.number connection) c
 
-    -- the state of the open connections, given the state of this one
+    -- the state of all open connections, given the state of the one in question
     pub stand_still : All (λ (c : Client L). (connection : ServedConnection L) → IsOpenConnection stream exchanges (get_or all_connections c.number connection) c) clients
         → IsOpenConnection stream (exchanges ++ more) (record { came = his_guest.came; last = new.stream }) new
         → All (λ (c : Client L). (connection : ServedConnection L) → IsOpenConnection stream (exchanges ++ more) (get_or all_now c.number connection) c) (set clients place new)
@@ -176,7 +176,7 @@ module _ {L : Type 0} (settings : ServerSettingsEntry) (stream : Stream L) where
             (λ connection. subst (λ (g : ServedConnection L). IsOpenConnection stream (exchanges ++ more) g (get_or clients k d)) (sym (at_other (get_or clients k d).number connection other))
             (stands_still exchanges more (get_or all_connections (get_or clients k d).number connection) (get_or clients k d) (others (get_or clients k d).number other) (stand k d at connection)))
 
-    -- each of the others is still open or was closed before
+    -- each of the other connections is still open, or had been closed before
     pub left_still : (gone : List (Removed L))
         → ((k : ℕ) (d : ServedConnection L) → k < length all_connections → IsOpenUnder clients k ⊎ WasClosed stream gone exchanges k (get_or all_connections k d))
         → (k : ℕ) (d : ServedConnection L) → k < length all_now → IsOpenUnder (set clients place new) k ⊎ WasClosed stream gone (exchanges ++ more) k (get_or all_now k d)
@@ -215,7 +215,7 @@ module _ {L : Type 0} (settings : ServerSettingsEntry) (stream : Stream L) where
       subst (λ (n : ℕ). AreOpen settings stream all_connections exchanges gone n clients_then) (sym same_came)
       (subst (λ (cs : List (Client L)). AreOpen settings stream all_connections exchanges gone came cs) (sym same_clients) are)
 
-  -- one was serviced: all accepted connections are as before, and so are the open ones
+  -- one connection was serviced: what holds for all accepted connections still holds, and so does what holds for the open ones
   pub one_went_on : (all_connections : List (ServedConnection L)) (exchanges more : List Exchange) (gone : List (Removed L)) (came : ℕ) (clients : List (Client L))
       (place : ℕ) (old new : Client L) → AreOpen settings stream all_connections exchanges gone came clients
       → place < length clients → old ≡ get_or clients place old → new.listener ≡ old.listener → new.number ≡ old.number → All (λ (v : Exchange). v.number ≡ old.number) more
@@ -325,7 +325,7 @@ module _ {L : Type 0} (settings : ServerSettingsEntry) (stream : Stream L) where
               let less : k < length all_connections = omega (arith, lt, ne, one_longer all_connections start) in
               inr (subst (λ (x : ServedConnection L). WasClosed stream gone exchanges k x) (sym (get_or_append_left all_connections (record { came = start; last = start.stream } ∷ []) d k less)) it)
 
-  -- it was accepted
+  -- a connection was accepted
   pub one_entered : (all_connections : List (ServedConnection L)) (exchanges : List Exchange) (gone : List (Removed L)) (came : ℕ) (clients : List (Client L))
       (start : Accepted L) (client : Client L) → AreOpen settings stream all_connections exchanges gone came clients
       → HasTaken (stream.taken start.stream) [] → client.listener ≡ start.listener → client.stream ≡ start.stream → client.number ≡ came → client.answer ≡ None → IsOf stream start.stream client
@@ -353,7 +353,7 @@ module _ {L : Type 0} (settings : ServerSettingsEntry) (stream : Stream L) where
 
   -- ---- a connection was closed
 
-  -- the reason for which a client may be closed applies to it
+  -- the reason for closing a client applies to it
   pub why_holds : (exchanges : List Exchange) (connection : ServedConnection L) (client : Client L) (why : CloseReason) → IsOpenConnection stream exchanges connection client
       → MayBeClosed stream why client → IsWhy stream why client.stream (exchanges_of client.number exchanges)
   why_holds exchanges connection client Broken stood may = may

@@ -60,13 +60,13 @@ asks_order_or_not settings got (console show) asks = inl (asks_no_order settings
 asks_order_or_not settings got (order entry) asks = inr (entry, asks)
 asks_order_or_not settings got (public its what) asks = inl (asks_no_order settings got (public its what) asks refl)
 
--- whatever was parsed, something is requested
+-- something is requested, whatever was parsed
 asks_something : (settings : HttpSettingsEntry) (got : List ℕ) (head : Parsed) → IsParsed settings got head → (what : HttpRequestEntry) × Asks settings got what
 asks_something settings got (parsed.Head head) is = (asked_by settings is.found is.behind, inr (is.found, is.behind, is.begins, refl))
 asks_something settings got parsed.Partial is = (denied BadRequest, inl (is.none, refl))
 asks_something settings got parsed.Malformed is = (denied BadRequest, inl (none_came got is, refl))
 
--- ---- its two outputs
+-- ---- the two outputs of an order
 
 -- both outputs are UTF-8
 pub told_printed : (status : ℕ) (out err output errors : List ℕ) (response : Response) → output ≡ out → IsUtf8 out → errors ≡ err → IsUtf8 err
@@ -88,7 +88,7 @@ told_failed status out err response other told = by (is_utf8 out) (is_utf8 err) 
 -- ---- the order is carried out
 
 module _ {S : Type 0} (settings : ServerSettingsEntry) (state_of : Held S → State) where
-  -- and the response was written
+  -- the order was carried out, and the response was written
   pub console_followed : (old new : OfficeValue S) (got answer : List ℕ) (entry : ConsoleOrderEntry) (response : Response) → Asks settings.clients got (order entry)
       → FollowsEntry settings state_of old entry (λ cut page. HasPrinted cut page response) new → EndsIn answer (λ before after ending. IsPut before after response ending)
       → FollowsConsole settings state_of old got answer new
@@ -136,7 +136,7 @@ module _ {S : Type 0} (settings : ServerSettingsEntry) (state_of : Held S → St
         };
       }
 
-  -- the same for anything that is requested; the cache is then empty
+  -- an allocation failed while a request was read; the cache is empty afterwards
   pub unread_served : (office : OfficeValue S) (kept later : MemoryEntry) (number moment : ℕ) (got answer : List ℕ) (head : Parsed) → IsParsed settings.clients got head → later.reads ≡ []
       → EndsIn answer (IsServed (IsWritten (fault_response 101)))
       → ServesAsked settings state_of (served_office office kept) (record { listener = Clients; number = number; moment = moment; got = got; answer = answer }) (served_office office later)
@@ -147,7 +147,7 @@ module _ {S : Type 0} (settings : ServerSettingsEntry) (state_of : Held S → St
         | inr (entry, asks) ↦ inr (console_unread office got answer entry asks told, none)
       ]
 
-  -- and then a wrong code is counted
+  -- then a wrong code is counted
   pub noted_asked : (old : ServedOffice S) (exchange : Exchange) (new : OfficeValue S) (kept later : MemoryEntry) → later.reads ≡ kept.reads
       → ServesAsked settings state_of old exchange (served_office new kept) → ServesAsked settings state_of old exchange (served_office new later)
   noted_asked old exchange new kept later same (inl (free, it)) = inl (free, noted_still settings.clients state_of old exchange new kept later same it)

@@ -77,7 +77,7 @@ module _ {L : Type 0} (stream : Stream L) where
   pub said_so : (o : FrameSink L) → IsGoingOut stream o.stream o.answer → said_through stream o ≡ Some (output_of o.answer.bytes.items)
   said_so o goes = ap (λ (b : Bool). cond b (Some (output_of o.answer.bytes.items)) None) (goes_by o goes)
 
-  -- it grows by what was written
+  -- what was accepted grows by what is written
   pub appends : (old new : FrameSink L) (bytes : List ℕ) → (IsGoingOut stream old.stream old.answer → IsGoingOut stream new.stream new.answer)
       → (IsGoingOut stream old.stream old.answer → output_of new.answer.bytes.items ≡ output_of old.answer.bytes.items ++ bytes) → Appends (said_through stream old) (said_through stream new) bytes
   appends old new bytes goes more = by (is_going_out stream old) refl
@@ -88,7 +88,7 @@ module _ {L : Type 0} (stream : Stream L) where
           let was = goes_from old is in
           subst (λ (t : Option (List ℕ)). Appends (Some (output_of old.answer.bytes.items)) t bytes) (sym (said_so new (goes was))) (more was)
 
-  -- it is unchanged
+  -- what was accepted is unchanged
   pub keeps : (old new : FrameSink L) → (IsGoingOut stream old.stream old.answer → IsGoingOut stream new.stream new.answer) → new.answer.bytes.items ≡ old.answer.bytes.items
       → Keeps (said_through stream old) (said_through stream new)
   keeps old new goes same = by (is_going_out stream old) refl
@@ -97,7 +97,7 @@ module _ {L : Type 0} (stream : Stream L) where
       by false is = tt
       by true is = subst (λ (t : Option (List ℕ)). Keeps (Some (output_of old.answer.bytes.items)) t) (sym (said_so new (goes (goes_from old is)))) (ap output_of same)
 
-  -- what it accepted is everything that was written, and that is being sent
+  -- the sink accepted everything that was written, and all of that is being sent
   pub said_from : (o : FrameSink L) (bytes : List ℕ) → said_through stream o ≡ Some bytes → IsGoingOut stream o.stream o.answer × (bytes ≡ output_of o.answer.bytes.items)
   said_from o bytes took = by (is_going_out stream o) refl took
     where
@@ -105,9 +105,9 @@ module _ {L : Type 0} (stream : Stream L) where
       by false is it = absurd (cc it)
       by true is it = (goes_from o is, cc it)
 
-  -- ---- one more frame
+  -- ---- another frame
 
-  -- the stream accepted more of it
+  -- the stream accepted more of the response
   pub out_more : (old new : L) (before after : PendingResponse) → Delivers stream old new before.bytes.items before.sent after.sent
       → after.bytes.items ≡ before.bytes.items → IsGoingOut stream old before
       → IsGoingOut stream new after

@@ -40,7 +40,7 @@ use Rattle.desk.specs.declared.orders.Job.{Job}
 use Rattle.server.specs.declared.served_order.ServedOrder.{ServedOrder}
 use Rattle.server.specs.declared.served_order.ServedOrder.TheVariants as asked
 
--- the state after some of the requests: those that were answered, and at most one more
+-- the state after the first requests: those that were answered, and at most one other
 abbrev pub IsAfterSome : OfficeState → List Request → ℕ → OfficeState → Type 0
 IsAfterSome s rs n x = (k : ℕ) × (n ≤ k) × (k ≤ n + 1) × (k ≤ length rs) × (x ≡ after s (take k rs))
 
@@ -53,7 +53,7 @@ leaves_as st P Q turns leaves trees may = let it = leaves trees may in (it.0, tu
 abbrev ClosesAt : OfficeState → List Request → Bool → State → Type 0
 ClosesAt s last closed st = (closed ≡ true) × LeavesState st (IsAfterSome s last 0)
 
--- what a response that is ready leaves: these requests were sent to the office for it; or it reports a fault that closed the office
+-- what a request leaves once its response is ready: the given requests were sent to the office for it; or the response reports a fault that closed the office
 abbrev ReadyLeaves : HttpSettingsEntry → List ℕ → OfficeState → (List Request → Type 0) → Type 0 → Bool → State → Type 0
 ReadyLeaves settings bytes s Tells Fails closed st =
     ((sent : List Request) × Tells sent × IsOpenAt (after s sent) closed st) ⊎ ((last : List Request) × Fails × IsLastFor settings bytes last × ClosesAt s last closed st)
@@ -93,7 +93,7 @@ tells_memory fault response is tells = by (subst (λ (f : Fault). IsTold (fault_
     by (inl written) = written
     by (inr written) = written
 
--- and a fault of the store, or of either, is reported under its number
+-- and a failed allocation or a fault of the store is reported under its number
 tells_fault : (fault : Fault) (response : _) → IsMemoryOrStore fault → IsTold (fault_response (fault_number fault)) response → TellsFault response
 tells_fault fault response (inl memory) tells = inr (tells_memory fault response memory tells)
 tells_fault fault response (inr store) tells = subst (λ (f : Fault). IsTold (fault_response (fault_number f)) response) store tells
@@ -163,7 +163,7 @@ client_leaves settings s exchange closed st (served, it) = elim (ready_leaves se
 
 -- ---- an order in an open office
 
--- what an order that was carried out leaves: the office is open at the state after what was answered; or it is closed, and a stop leaves that state, or the state after
+-- what an order that was carried out leaves: the office is open in the state after what was answered; or it is closed, and a stop leaves that state or the state after
 -- the next request
 abbrev OrderLeaves : {S : Type 0} → (Held S → State) → Folder → OfficeState → ServedOrder → Cut → Page → Bool → State → Type 0
 OrderLeaves state_of folder s what cut page closed st =
@@ -171,7 +171,7 @@ OrderLeaves state_of folder s what cut page closed st =
     ⊎ ((sent : List Request) × (last : List Request) × PrintsAt state_of folder s what cut page sent last × (closed ≡ true) × LeavesState st (IsAfterSome s (sent ++ last) (length sent)))
 
 module _ {S : Type 0} (state_of : Held S → State) (folder : Folder) (s : OfficeState) where
-  -- nothing was sent, and the office is open at the same state, or its store failed
+  -- nothing was sent, and the office is open in the same state, or its store failed
   none_sent : (what : ServedOrder) (cut : Cut) (page : Page) (closed : Bool) (st : State) → PrintsAt state_of folder s what cut page [] [] → IsReadAt s closed st
       → OrderLeaves state_of folder s what cut page closed st
   none_sent what cut page closed st tells (inl open_at) = inl ([], [], tells, open_at)
@@ -211,19 +211,19 @@ module _ {S : Type 0} (state_of : Held S → State) (folder : Folder) (s : Offic
 
 -- ---- one request after another
 
--- what a processed request leaves: its response, and the office, still open, with the cached responses right at its state; or a fault closed the office
+-- what a processed request leaves: its response, and the office, still open, with cached responses that are correct in its state; or a fault closed the office
 abbrev TurnLeaves : {S : Type 0} → Listener → (Held S → State) → ServerSettingsEntry → OfficeState → Exchange → List ReadEntry → Bool → State → Type 0
 TurnLeaves listener state_of settings s exchange reads closed st =
     ((sent : List Request) × IsAnsweredAt listener state_of settings s exchange sent × AreReadAt (after s sent) reads × IsOpenAt (after s sent) closed st)
     ⊎ ((answered : List Request) × (last : List Request) × IsStoppedAt listener state_of settings s exchange answered last × (closed ≡ true) × LeavesState st
     (IsAfterSome s (answered ++ last) (length answered)))
 
--- ---- what is cached of reads
+-- ---- cached reads
 
 none_read : (s : OfficeState) (reads : List ReadEntry) → reads ≡ [] → AreReadAt s reads
 none_read s reads none = subst (λ (rs : List ReadEntry). AreReadAt s rs) (sym none) (All-nil (λ (r : ReadEntry). IsRead s r.what r.answer))
 
--- for a request that changes nothing, nothing is sent to the office
+-- nothing is sent to the office for a request that changes nothing
 nothing_sent : (settings : HttpSettingsEntry) (s : OfficeState) (exchange : Exchange) (asked : HttpRequestEntry) (sent : List Request) → Asks settings exchange.got asked → ChangesNothing asked
     → EndsSo exchange (IsServed (TellsFor settings (Some exchange.got) s sent)) → sent ≡ []
 nothing_sent settings s exchange asked sent asks still (served, it) = by it.ready
@@ -246,7 +246,7 @@ module _ {S : Type 0} (settings : ServerSettingsEntry) (state_of : Held S → St
   stays_clean : (old new : ServedOffice S) → new ≡ old → HasCleanDisk (state_of new.office.held) → HasCleanDisk (state_of old.office.held)
   stays_clean old new stays clean = subst (λ (d : ServedOffice S). HasCleanDisk (state_of d.office.held)) stays clean
 
-  -- a client that is rejected gets that response, and everything is unchanged
+  -- a client that is turned away gets a response saying so, and everything is unchanged
   turned_back : (exchange : Exchange) (old new : ServedOffice S) → IsRateLimited settings.clients old exchange new ⊎ IsWithoutFile settings old exchange new
       → IsRejected settings exchange × (new ≡ old)
   turned_back exchange old new (inl waits) = (inl waits.told, waits.stays)
@@ -290,7 +290,7 @@ module _ {S : Type 0} (settings : ServerSettingsEntry) (state_of : Held S → St
       let (page, stays) = it.tells.turned_away closed in
       (record { files = it.files; asked = it.asked; is = it.is; cut = it.tells.cut; told = subst (λ (p : Page). IsFramed it.tells.cut p exchange.answer) page it.tells.told }, stays)
 
-  -- what is cached after a client was served is right at the state after it
+  -- what is cached after a client has been served is correct in the state that its request leaves
   kept_right : (s : OfficeState) (exchange : Exchange) (old new : ServedOffice S) → ServesClient settings.clients state_of old exchange new
       → HasCleanDisk (state_of new.office.held) → old.office.closed ≡ false
       → IsAt s (state_of old.office.held) → AreReadAt s old.kept.reads → (sent : List Request) → EndsSo exchange (IsServed (TellsFor settings.clients (Some exchange.got) s sent))
@@ -313,7 +313,7 @@ module _ {S : Type 0} (settings : ServerSettingsEntry) (state_of : Held S → St
         | inr (last, ends, is_last, (is_closed, leaves)) ↦ inr ([], last, inl (record { no_order = free; told = ends; none = refl; is_last = is_last }), is_closed, leaves)
       ]
 
-  -- the same, or its order was carried out
+  -- such a client was served, or a client's order was carried out
   asked_leaves : (s : OfficeState) (exchange : Exchange) (old new : ServedOffice S) → ServesAsked settings state_of old exchange new
       → HasCleanDisk (state_of new.office.held) → old.office.closed ≡ false
       → IsAt s (state_of old.office.held) → AreReadAt s old.kept.reads → TurnLeaves Clients state_of settings s exchange new.kept.reads new.office.closed (state_of new.office.held)
@@ -369,7 +369,7 @@ module _ {S : Type 0} (settings : ServerSettingsEntry) (state_of : Held S → St
       let others = turned_away exchanges mid new rest (ap (λ (o : OfficeValue S). o.closed) stays ∙ closed) in
       ((away, others.0), others.1 ∙ stays)
 
-  -- what is kept of exchanges that are processed from a state on
+  -- what is kept of exchanges that are processed from a given state on
   pub record Keeps (s : OfficeState) (exchanges : List Exchange) (closed : Bool) (st : State) : Type 0 where
     pub answered : List Request
     pub last : List Request
@@ -432,7 +432,7 @@ module _ {S : Type 0} (settings : ServerSettingsEntry) (state_of : Held S → St
             (shut s answered last (exchange ∷ exchanges) mid.office.closed (state_of mid.office.held) is_closed (inr (stopped, away.0)) leaves)
       ]
 
-  -- the same after earlier requests, when no response is cached yet
+  -- the same after earlier requests, with an empty cache
   pub kept_of : (earlier : List Request) (exchanges : List Exchange) (old : OfficeValue S) (new : ServedOffice S)
       → FoldsTo (ServesExchange settings state_of) (with_none_kept old) exchanges new
       → HasCleanDisk (state_of new.office.held) → old.closed ≡ false → IsAt (after empty_office earlier) (state_of old.held)

@@ -28,7 +28,7 @@ use Rattle.server.specs.declared.server_settings.FileNumbers.{FileNumbers}
 
 -- ---- what is sent
 
--- two outputs that haven't accepted anything yet
+-- neither output has accepted anything yet
 pub none_told : (o : Outputs) → o.out ≡ Some [] → o.out_failed ≡ 0 → o.err ≡ Some [] → o.err_failed ≡ 0 → o ≡ untold
 none_told o out out_failed err err_failed =
     ap (λ (x : Option (List ℕ)). record { out = x; out_failed = o.out_failed; err = o.err; err_failed = o.err_failed }) out
@@ -40,13 +40,13 @@ taken_known : (new : Option (List ℕ)) (bytes : List ℕ) → Appends (Some [])
 taken_known None bytes it = absurd it
 taken_known (Some said) bytes it = (said, refl)
 
--- however much of a page was printed, it is known what the output accepted
+-- what the output accepted is known, however much of a page was printed
 shown_said : (cut : Cut) (told : Outputs) (page : Page) (status : ℕ) → IsShown cut untold told page status → (said : List ℕ) × (told.out ≡ Some said)
 shown_said uncut told page status it = taken_known told.out page.out it.out
 shown_said (cut_behind took) told page status it = taken_known told.out took it.out
 shown_said cut_error told page status it = taken_known told.out page.out it.out
 
--- what is requested was carried out, and this part of its page was sent in this way
+-- the request was carried out, and this part of its page was sent this way
 pub follows_asked : {S : Type 0} (state_of : Held S → State) (old new : OfficeValue S) (files : List MessagePartEntry) (what : ServedOrder) (before after : Outputs) (status : ℕ)
     (IsSent : Cut → Page → Type 0) → before ≡ untold → ((cut : Cut) (page : Page) → IsShown cut untold after page status → IsSent cut page)
     → Tells before after status (λ cut page. WhenOpenAt state_of old new (λ s. IsOrderOutcome (state_of old.held) new.closed (state_of new.held) (folder_of files) s what cut page)
@@ -61,7 +61,7 @@ follows_asked {S} state_of old new files what before after status IsSent start s
   clean = clean;
 }
 
--- the same, sent in a different way
+-- the request was carried out, and its page was sent another way
 pub follows_sent : {S : Type 0} (state_of : Held S → State) (old new : OfficeValue S) (files : List MessagePartEntry) (what : ServedOrder) (IsSent IsSentToo : Cut → Page → Type 0)
     → ((cut : Cut) (page : Page) → IsSent cut page → IsSentToo cut page) → Follows state_of old files what IsSent new → Follows state_of old files what IsSentToo new
 follows_sent {S} state_of old new files what IsSent IsSentToo turns it = record {
@@ -73,7 +73,7 @@ follows_sent {S} state_of old new files what IsSent IsSentToo turns it = record 
   clean = it.clean;
 }
 
--- what is requested was processed, and its page was sent in frames
+-- the request was processed, and its page was sent in frames
 pub tells_asked : {L S : Type 0} (stream : Stream L) (state_of : Held S → State) (old new : OfficeValue S) (files : List MessagePartEntry) (what : ServedOrder)
     (before after : Outputs) (status : ℕ) (err : List ℕ)
     (now : L) (answer : PendingResponse) → before ≡ untold → after.err ≡ Some err → ((said : List ℕ) → after.out ≡ Some said → IsEnded stream said status err now answer)
@@ -107,7 +107,7 @@ tells_shut {S} state_of office files what before after status closed shows = rec
   is = (λ clean is_open s at. absurd (true≢false (sym closed ∙ is_open)), λ was. refl);
 }
 
--- the page of an open one
+-- the page of an open office
 pub tells_open : {S : Type 0} (state_of : Held S → State) (old new : OfficeValue S) (files : List MessagePartEntry) (what : ServedOrder) (before after : Outputs) (status : ℕ) → old.closed ≡ false
     → Tells before after status (λ cut page. WhenOpenAt state_of old new (λ s. IsOrderOutcome (state_of old.held) new.closed (state_of new.held) (folder_of files) s what cut page))
     → Tells before after status (λ cut page. WhenOpenAt state_of old new (λ s. IsOrderOutcome (state_of old.held) new.closed (state_of new.held) (folder_of files) s what cut page)
@@ -133,7 +133,7 @@ words_read h = names h.words.items
 pub other_file : (file : FileNumbers) (got : List ℕ) (h : OrderMessageEntry) → IsMessage got h → (IsForFile file h → ⊥) → IsUnread file got (asked.Refused (Office Store))
 other_file file got h message other = inr (refl, λ o is for_file text. other (subst (λ (x : OrderMessageEntry). IsForFile file x) (same_order got o h is message) for_file))
 
--- its words aren't valid UTF-8
+-- the words of the order aren't valid UTF-8
 pub no_text : (file : FileNumbers) (got : List ℕ) (h : OrderMessage) → IsMessage got (order_message_entry h) → (list_all is_utf8 (map (λ (p : MessagePart). p.name.now) h.words.items) ≡ true → ⊥)
     → IsUnread file got (asked.Refused (Office Store))
 no_text file got h message bad = inr (
@@ -142,7 +142,7 @@ no_text file got h message bad = inr (
       bad (ap (list_all is_utf8) (sym (words_read h)) ∙ subst (λ (x : OrderMessageEntry). list_all is_utf8 (words_in x) ≡ true) (same_order got o (order_message_entry h) is message) text),
 )
 
--- its words weren't decoded: an allocation failed, or they aren't valid UTF-8
+-- the words of the order weren't decoded: an allocation failed, or they aren't valid UTF-8
 pub words_unread : (file : FileNumbers) (got : List ℕ) (h : OrderMessage) (words : List MessagePart) (fault : Fault) → IsMessage got (order_message_entry h) → words ≡ h.words.items
     → (fault ≡ Memory) ⊎ ((fault ≡ Store) × (list_all is_utf8 (map (λ (p : MessagePart). p.name.now) words) ≡ true → ⊥)) → IsUnread file got (asked.Refused (Office fault))
 words_unread file got h words fault message same (inl wanting) = inl (ap (λ (f : Fault). asked.Refused (Office f)) wanting)
@@ -150,11 +150,11 @@ words_unread file got h words fault message same (inr (store, bad)) =
     subst (λ (f : Fault). IsUnread file got (asked.Refused (Office f))) (sym store)
     (no_text file got h message (subst (λ (ws : List MessagePart). list_all is_utf8 (map (λ (p : MessagePart). p.name.now) ws) ≡ true → ⊥) same bad))
 
--- its bytes don't encode an order
+-- the bytes of the message don't encode an order
 pub no_order : (file : FileNumbers) (got message : List ℕ) → message ≡ drop 8 got → ((h : OrderMessageEntry) → Fits h → message ≡ encoding_of h → ⊥) → IsUnread file got (asked.Refused (Office Store))
 no_order file got message is none = inr (refl, λ h it for_file text. none h it.fits (is ∙ it.is))
 
--- no order was decoded: an allocation failed, or its bytes aren't an order
+-- no order was decoded: an allocation failed, or the bytes aren't an order
 pub order_unread : (file : FileNumbers) (got message : List ℕ) (fault : Fault) → message ≡ drop 8 got
     → (fault ≡ Memory) ⊎ ((fault ≡ Store) × ((h : OrderMessageEntry) → Fits h → message ≡ encoding_of h → ⊥)) → IsUnread file got (asked.Refused (Office fault))
 order_unread file got message fault is (inl wanting) = inl (ap (λ (f : Fault). asked.Refused (Office f)) wanting)
@@ -165,7 +165,7 @@ pub follows_unread : {S : Type 0} (settings : ServerSettingsEntry) (state_of : H
     → IsUnread settings.file got what → files ≡ [] → IsResponseToOrder state_of old files what frames new → FollowsOrder settings state_of old got frames new
 follows_unread {S} settings state_of old new got frames files what unread none tells = record { files = files; asked = what; is = inr (unread, none); tells = tells }
 
--- an order that was decoded is carried out, with its words and files as decoded
+-- an order that was decoded is carried out, with the words and files that were decoded
 pub follows_read : {S : Type 0} (settings : ServerSettingsEntry) (state_of : Held S → State) (old new : OfficeValue S) (got frames : List ℕ) (h : OrderMessage)
     (files : List MessagePart) (what : ServedOrder)
     → IsMessage got (order_message_entry h) → IsForFile settings.file (order_message_entry h) → files ≡ h.files.items → AsksSo settings.whole (words_in (order_message_entry h)) what

@@ -45,7 +45,7 @@ use Rattle.server.proofs.ServicingLemmas.{is_heard}
 
 -- ---- a place in the table
 
--- a connection was taken out of its place, and put back changed
+-- a connection was taken out of its place, changed, and put back
 set_again : {X : Type 0} (xs : List X) (place : ℕ) (x : X) → place < length xs → insert (remove xs place) place x ≡ set xs place x
 set_again [] place x within = absurd (omega (arith, within))
 set_again (y ∷ ys) zero x within = refl
@@ -56,7 +56,7 @@ remove_set [] place x within = absurd (omega (arith, within))
 remove_set (y ∷ ys) zero x within = refl
 remove_set {X} (y ∷ ys) (suc place) x within = ap (λ (zs : List X). y ∷ zs) (remove_set ys place x (omega (arith, within)))
 
--- a connection is back in its place, for which there was room
+-- a connection was put back in its place, and there was room for it
 pub few_again : {L : Type 0} (old new : List (Client L)) (place : ℕ) (client : Client L) → place ≤ length old → length old < most_clients → new ≡ insert old place client → length new ≤ most_clients
 few_again {L} old new place client within few is =
     let more = length-insert old place client within in
@@ -76,7 +76,7 @@ grows_then : {X : Type 0} (old mid new : Option (List X)) (first next : List X) 
     → new ≡ option_map (λ (xs : List X). xs ++ (first ++ next)) old
 grows_then {X} old mid new first next a b = b ∙ ap (option_map (λ (xs : List X). xs ++ next)) a ∙ more_then old first next
 
--- how many of them are clients
+-- how many of the accepted connections are clients
 clients_append : {L : Type 0} (first next : List (Accepted L)) → clients_among (first ++ next) ≡ clients_among first + clients_among next
 clients_append first next = sum_by-append (λ accepted. count_at accepted.listener) first next
 
@@ -88,7 +88,7 @@ pub still_look : {L : Type 0} (result : Result ℕ Broken) (before later : Netwo
 still_look (Ok value) before later is = (ap (λ (d : NetworkEntry _). d.came) is, ap (λ (d : NetworkEntry _). d.left) is)
 still_look (Err broken) before later is = (ap (λ (d : NetworkEntry _). d.came) is, ap (λ (d : NetworkEntry _). d.left) is)
 
--- the clock may have shown a time at the gate
+-- the clock may have been read at the gate
 gate_still : {L : Type 0} (gate : Option ℕ) (before : NetworkEntry L)
     → ((with_gate gate before).came ≡ before.came) × ((with_gate gate before).left ≡ before.left) × ((with_gate gate before).failed ≡ before.failed) × ((with_gate gate before).waits ≡ before.waits)
 gate_still None before = (refl, refl, refl, refl)
@@ -118,7 +118,7 @@ still_comes {L} stream turns old new (Err broken) gate before later (since, is) 
 pub still_known : {L : Type 0} (before later : NetworkEntry L) → later ≡ before → IsStill before later
 still_known {L} before later is = (ap (λ (d : NetworkEntry L). d.came) is, ap (λ (d : NetworkEntry L). d.left) is)
 
--- which connections may be closed after this outcome
+-- which connections may be closed after a given outcome
 may_leave : {L : Type 0} (stream : Stream L) (why : CloseReason) (client : Client L) → EndsFor stream why client → MayBeClosed stream why client
 may_leave stream Done client ends = ends
 may_leave stream broken_off client ends = ends
@@ -142,7 +142,7 @@ module _ {L : Type 0} (gated : Bool) (stream : Stream L) where
       trace_then gated stream [] [] from (Some moment) (Some moment) before gone later old.clients.items left.clients.items new.clients.items
       (course_look gated stream from moment before now gone old left shown late none) trace
 
-  -- then came a wait, which may have failed
+  -- then there was a wait, which may have failed
   pub course_wait : (result : Result (Unit {0}) Broken) (from to : Option ℕ) (before mid later : NetworkEntry L) (old new : List (Client L))
       → later ≡ after_wait result mid → Trace gated stream [] from to before mid old new
       → Trace gated stream [] from to before later old new
@@ -194,7 +194,7 @@ module _ {L : Type 0} (settings : ServerSettingsEntry) (stream : Stream L) where
         );
   }
 
-  -- some connections were closed
+  -- connections were closed
   module _ (Goes : List (Client L) → Removed L → List (Client L) → Type 0) (outs : Outs Goes) where
     stay : (gone : List (Removed L)) (all_connections : List (ServedConnection L)) (exchanges : List Exchange) (left : List (Removed L)) (came : ℕ) (old new : List (Client L))
         → FoldsTo Goes old gone new
@@ -232,7 +232,7 @@ module _ {L : Type 0} (settings : ServerSettingsEntry) (stream : Stream L) where
       goes_then [] [] before now later old old new (goes_none before now old (ap (λ (d : NetworkEntry L). d.came) shown, ap (λ (d : NetworkEntry L). d.left) shown))
       (goes_then [] [] now gone later old left new (goes_without (IsClosedByRule (timeout_rule moment)) (late_outs moment) now gone old left late) more)
 
-  -- then came a wait, which may have failed
+  -- then there was a wait, which may have failed
   pub goes_wait : (result : Result (Unit {0}) Broken) (before mid later : NetworkEntry L) (old new : ConnectionTable L) → later ≡ after_wait result mid → GoesOn settings stream [] before mid old new
       → GoesOn settings stream [] before later old new
   goes_wait result before mid later old new is more = goes_then [] [] before mid later old new new more (goes_none mid later new (still_wait result mid later is))
@@ -241,7 +241,7 @@ module _ {L : Type 0} (settings : ServerSettingsEntry) (stream : Stream L) where
   pub goes_failure : (before later : NetworkEntry L) (table : ConnectionTable L) → later ≡ with_failure before → GoesOn settings stream [] before later table table
   goes_failure before later table is = goes_none before later table (ap (λ (d : NetworkEntry L). d.came) is, ap (λ (d : NetworkEntry L). d.left) is)
 
-  -- a connection was closed, for a reason for which it may be closed
+  -- a connection was closed, for a permitted reason
   pub goes_less : (before later : NetworkEntry L) (old new : ConnectionTable L) (place : ℕ) (client : Client L) (why : CloseReason)
       → later ≡ with_removed before (removed_of client why) → place < length old.clients.items
       → ((d : Client L) → client ≡ get_or old.clients.items place d) → MayBeClosed stream why client → new.clients.items ≡ remove old.clients.items place
@@ -276,7 +276,7 @@ module _ {L : Type 0} (settings : ServerSettingsEntry) (stream : Stream L) where
 
   -- ---- a connection is serviced
 
-  -- it has the same response as before, or still has none
+  -- the connection has the same response as before, or still has none
   had_still : (connection : ServedConnection L) (exchanges : List Exchange) (old new : Client L) → answer_of new ≡ answer_of old
       → ((start : L) → IsOf stream start old → IsOf stream start new) → IsOpenConnection stream exchanges connection old
       → HadExchange settings stream connection (exchanges_of old.number exchanges)
@@ -289,7 +289,7 @@ module _ {L : Type 0} (settings : ServerSettingsEntry) (stream : Stream L) where
         λ exchange one. gathered_for settings stream connection (exchanges_of old.number exchanges) exchange went (sym under ∙ one),
       )
 
-  -- its request, which is complete, was processed
+  -- the connection's request, which is complete, was processed
   had_turn : {S : Type 0} (state_of : Held S → State) (connection : ServedConnection L) (exchanges : List Exchange) (now : ℕ) (old new : Client L) (before later : ServedOffice S)
       → (turn : HasResponded settings stream state_of now old new before later)
       → ((start : L) → IsOf stream start old → IsOf stream start new) → IsOpenConnection stream exchanges connection old
@@ -314,7 +314,7 @@ module _ {L : Type 0} (settings : ServerSettingsEntry) (stream : Stream L) where
   abbrev pub room_with : ConnectionTable L → ℕ → Client L → ConnectionTable L
   room_with table place client = record table { clients = with_item table.clients place client }
 
-  -- a connection was serviced, with these exchanges
+  -- a connection was serviced, with the given exchanges
   abbrev pub ServesJust : {S : Type 0} → (Held S → State) → List Exchange → NetworkEntry L → NetworkEntry L → ConnectionTable L → ConnectionTable L → ServedOffice S → ServedOffice S → Type 0
   ServesJust state_of exchanges before later old new at behind = (it : GoesOnServing settings stream state_of before later old new at behind) × (it.exchanges ≡ exchanges)
 
@@ -379,7 +379,7 @@ module _ {L : Type 0} (settings : ServerSettingsEntry) (stream : Stream L) where
     abbrev gated : Bool
     gated = is_some settings.clients.gate
 
-    -- the open connections change in this way, whatever time the clock showed last
+    -- the open connections change this way, whatever time the clock most recently returned
     abbrev pub CourseBy : List Exchange → NetworkEntry L → NetworkEntry L → List (Client L) → List (Client L) → Type 0
     CourseBy exchanges before later old new = (from : Option ℕ) → (to : Option ℕ) × Trace gated stream (map response_at exchanges) from to before later old new
 
@@ -406,21 +406,21 @@ module _ {L : Type 0} (settings : ServerSettingsEntry) (stream : Stream L) where
               went.clients.items new.clients.items first_course next_course),
         )
 
-    -- a connection had these exchanges
+    -- a connection had the given exchanges
     serves_just : (exchanges : List Exchange) (before later : NetworkEntry L) (old new : ConnectionTable L) (at behind : ServedOffice S) → ServesJust state_of exchanges before later old new at behind
         → CourseBy exchanges before later old.clients.items new.clients.items → ServesFrom settings stream state_of before later old new at behind
     serves_just exchanges before later old new at behind (it, just) trace = λ from.
         let (to, so) = trace from in
         (to, it, subst (λ (vs : List Exchange). Trace gated stream (map response_at vs) from to before later old.clients.items new.clients.items) (sym just) so)
 
-    -- nothing changed in what is known of the network
+    -- what is known about the network is unchanged
     pub serves_still : (before later : NetworkEntry L) (table : ConnectionTable L) (office : ServedOffice S) → later ≡ before
         → ServesFrom settings stream state_of before later table table office office
     serves_still before later table office is =
         serves_none before later table table office (goes_none before later table (still_known before later is))
         (λ from. (from, trace_none gated stream from before later table.clients.items (ap (λ (d : NetworkEntry L). d.events) is)))
 
-    -- a connection was reported that isn't open
+    -- a connection that isn't open was reported
     pub serves_nobody : (number : ℕ) (before later : NetworkEntry L) (table : ConnectionTable L) (office : ServedOffice S) → later ≡ after_ready (Some number) before
         → ServesFrom settings stream state_of before later table table office office
     serves_nobody number before later table office is =
@@ -436,7 +436,7 @@ module _ {L : Type 0} (settings : ServerSettingsEntry) (stream : Stream L) where
 
     -- ---- a connection that was reported was serviced
 
-    -- the exchanges that it had are the responses listed
+    -- the connection's exchanges match the responses listed
     had_turns : (gate : Option ℕ) (exchanges : List Exchange) (old new : Client L) (at behind : ServedOffice S)
         → HasExchanges settings stream state_of (moment_of gate) exchanges old new at behind → IsAtGate gated gate exchanges
         → HadResponses gated gate (map response_at exchanges) old new
@@ -477,7 +477,7 @@ module _ {L : Type 0} (settings : ServerSettingsEntry) (stream : Stream L) where
           (λ from. course_stays gated stream from table.clients.items place number old new went.gate (map response_at went.exchanges) within here his_number (listener, same) is
           (had_turns went.gate went.exchanges old new at behind went.had went.at_gate) before ready later named went.comes) out items came counted
 
-      -- the same if the clock failed
+      -- the connection is back in its place, and the clock failed
       pub serves_stops : (broken : Broken) (later : NetworkEntry L) (taken back : ConnectionTable L) → WasServiced gated settings stream state_of (Err broken) ready later old new at behind
           → taken.clients.items ≡ remove table.clients.items place → back.clients.items ≡ insert taken.clients.items place new → back.came ≡ table.came → back.counted ≡ table.counted
           → ServesFrom settings stream state_of before later table back at behind
@@ -579,11 +579,11 @@ module _ {L : Type 0} (settings : ServerSettingsEntry) (stream : Stream L) where
     sound_later before later old new at behind on (all_connections, exchanges, left, are) =
         let (to, it, trace) = on None in let (all, came, now) = it.goes_on.own all_connections exchanges left are in (all, exchanges ++ it.exchanges, left ++ it.goes_on.gone, now)
 
-    -- no connection is open any more, so each was handed back
+    -- no connection is still open, so each was handed back
     none_is_in : (k : ℕ) (clients : List (Client L)) → clients ≡ [] → IsOpenUnder clients k → ⊥
     none_is_in k clients none it = let some = it.within in let zero : length clients ≡ 0 = ap (λ (cs : List (Client L)). length cs) none in omega (arith, some, zero)
 
-    -- all connections accepted since the network was opened, if none was open before, and those open at the end were closed
+    -- what happened to all accepted connections, if none was open at first and those open at the end were closed
     pub hall_serves : (before end later : NetworkEntry L) (most : Option ℕ) (old went new : ConnectionTable L) (at : OfficeValue S) (kept : MemoryEntry)
         (behind : ServedOffice S) (result : Result (Unit {0}) ServeError)
         → kept ≡ (with_none_kept at).kept → ServesFrom settings stream state_of before end old went (served_office at kept) behind → AreClosedByRule IsClosed end later went new
@@ -636,7 +636,7 @@ module _ {L : Type 0} (settings : ServerSettingsEntry) (stream : Stream L) where
 pub sound_empty : {L : Type 0} (settings : ServerSettingsEntry) (stream : Stream L) (table : ConnectionTable L) → table.clients.items ≡ [] → table.came ≡ 0 → IsSound settings stream table
 sound_empty {L} settings stream table none first = ([], [], [], are_same settings stream [] [] [] 0 table.came [] table.clients.items first none (none_in settings stream))
 
--- in a sound table, nothing was sent to a connection that has no response
+-- in a sound table, nothing has been sent to a connection without a response
 pub untold_at : {L : Type 0} (settings : ServerSettingsEntry) (stream : Stream L) (table : ConnectionTable L) (place : ℕ) (client : Client L)
     → IsSound settings stream table → place < length table.clients.items
     → client ≡ get_or table.clients.items place client → HasSentNothing stream client
@@ -648,7 +648,7 @@ untold_at {L} settings stream table place client (all_connections, exchanges, le
     let received = is_heard stream (get_or all_connections client.number some_guest).came.stream client none own in
     received.untold
 
--- ---- how many clients were to be accepted
+-- ---- how many clients should be accepted
 
 pub most_few : (connections : Option ℕ) (most came : ℕ) → most ≡ unwrap_or connections (2 ^ 64 - 1) → came ≤ most → IfSome connections (λ n. came ≤ n)
 most_few None most came is few = tt
@@ -658,12 +658,12 @@ pub most_all : (connections : Option ℕ) (most came : ℕ) → most ≡ unwrap_
 most_all None most came is few all = tt
 most_all (Some n) most came is few all = omega (arith, is, few, all)
 
--- no more clients were accepted than requested, even if some connections were closed after that
+-- no more clients were accepted than requested, even if connections were closed after that
 pub few_closed : (connections : Option ℕ) (most none came closed : ℕ) → most ≡ unwrap_or connections (2 ^ 64 - 1) → none ≡ 0 → (none ≤ most → came ≤ most)
     → closed ≡ came → IfSome connections (λ n. closed ≤ n)
 few_closed connections most none came closed is first few same = let all = few (omega (arith, first)) in most_few connections most closed is (omega (arith, all, same))
 
--- and all of them were accepted, if nothing failed
+-- all requested clients were accepted, if nothing failed
 pub all_closed : {E : Type 0} (result : Result (Unit {0}) E) (connections : Option ℕ) (most none came closed : ℕ) → most ≡ unwrap_or connections (2 ^ 64 - 1)
     → none ≡ 0 → (none ≤ most → came ≤ most) → closed ≡ came → OnOk result (most ≤ came)
     → OnOk result (IfSome connections (λ n. closed ≡ n))
@@ -671,7 +671,7 @@ all_closed (Ok value) connections most none came closed is first few same all = 
     (omega (arith, at_most, same)) (omega (arith, all, same))
 all_closed (Err why) connections most none came closed is first few same all = tt
 
--- ---- calls of the network
+-- ---- calls to the network
 
 module _ {L : Type 0} where
   -- an open connection was serviced: either no call failed, or only the clock did

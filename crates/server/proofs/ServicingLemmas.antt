@@ -38,27 +38,27 @@ pub none_from : {X : Type 0} (found : Option X) → is_some found ≡ false → 
 none_from None is = refl
 none_from (Some x) is = absurd (cc is)
 
--- a response that is unchanged, of which more may have been sent
+-- the response is unchanged, but more of it may have been sent
 pub same_answer : (old new : PendingResponse) (before : Option PendingResponse) → before ≡ Some old → new.bytes.items ≡ old.bytes.items
     → option_map (λ (a : PendingResponse). a.bytes.items) (Some new) ≡ option_map (λ (a : PendingResponse). a.bytes.items) before
 same_answer old new before is same = ap Some same ∙ sym (ap (option_map (λ (a : PendingResponse). a.bytes.items)) is)
 
--- bytes that lack nothing are complete
+-- a request that lacks no bytes is complete
 pub come_whole : (its : HttpSettingsEntry) (held : Option (List ℕ)) (got : List ℕ) (parsed : Parsed) (lacking : Completeness) (n : ℕ) → n ≡ length got → lacking ≡ Complete
     → ((settings : HttpSettingsEntry) (bytes : List ℕ) → length bytes ≡ n → IsParsed settings bytes parsed → IsCompletenessOf settings bytes lacking)
     → IsParsed its got parsed → IsCompleteFor its held got parsed
 come_whole its held got parsed lacking n long nothing completeness_of is = (inl (subst (λ (l : Completeness). IsCompletenessOf its got l) nothing (completeness_of its got (sym long) is)), is)
 
--- and so are those of a client that sends no more
+-- so is the request of a client that sends nothing more
 pub come_ended : (its : HttpSettingsEntry) (held : Option (List ℕ)) (got : List ℕ) (parsed : Parsed) → IsAtEnd held → IsParsed its got parsed → IsCompleteFor its held got parsed
 come_ended its held got parsed ended is = (inr ended, is)
 
--- the parsed head remains right as more bytes are received
+-- the parsed head remains correct as more bytes are received
 pub parsed_on : {L : Type 0} (stream : Stream L) (its : HttpSettingsEntry) (parsed : Parsed) (old new : L) (before after : List ℕ) → Receives stream old new before after
     → ((more : List ℕ) → IsParsed its (before ++ more) parsed) → IsParsed its after parsed
 parsed_on stream its parsed old new before after receives lasts = subst (λ (xs : List ℕ). IsParsed its xs parsed) (sym receives.is) (lasts receives.more)
 
--- the same once there are as many bytes as a head may have
+-- the parsed head remains correct once there are as many bytes as a head may have
 pub lasts_for : (its : HttpSettingsEntry) (seen got : List ℕ) (parsed : Parsed) → seen ≡ got → (8192 ≤ length seen → (more : List ℕ) → IsParsed its (seen ++ more) parsed) → 8192 ≤ length got
     → (more : List ℕ) → IsParsed its (got ++ more) parsed
 lasts_for its seen got parsed same lasts full =
@@ -85,7 +85,7 @@ pub told_gone : (exchange : Exchange) (before after : List ℕ) (served : Ending
     → IsServed (IsWritten (fault_response 113)) (Some before) (Some after) served → IsGoneResponse exchange
 told_gone exchange before after served is_before is_answer it = told_first (fault_response 113) exchange.answer before after served is_before is_answer it
 
--- a file that isn't whole isn't known to be whole
+-- if a file isn't whole, it isn't known to be whole
 pub known_gone : (whole : Option Bool) (is_whole : Bool) → IfSome whole (λ (known : Bool). is_whole ≡ known) → is_whole ≡ false → whole ≡ Some true → ⊥
 known_gone whole is_whole it gone known = let same : is_whole ≡ true = subst (λ (w : Option Bool). IfSome w (λ (k : Bool). is_whole ≡ k)) known it in true≢false (sym same ∙ gone)
 
@@ -105,12 +105,12 @@ module _ {L : Type 0} (stream : Stream L) where
   pub of_heard : (start : L) (client : Client L) → client.answer ≡ None → IsReceived stream start client.stream client.got.items → IsOf stream start client
   of_heard start client none received = subst (λ (a : Option PendingResponse). IsServedSo stream start client.stream client.got.items a) (sym none) received
 
-  -- more of its request was received
+  -- more of the connection's request was received
   pub heard_on : (start : L) (old new : Client L) → old.answer ≡ None → Receives stream old.stream new.stream old.got.items new.got.items → IsOf stream start old
       → IsReceived stream start new.stream new.got.items
   heard_on start old new none receives of = heard_more stream start old.stream new.stream old.got.items new.got.items (is_heard start old none of) receives
 
-  -- more of its response was sent
+  -- more of the connection's response was sent
   pub told_on : (start old now : L) (got : List ℕ) (before : Option PendingResponse) (answer told : PendingResponse) → before ≡ Some answer
       → Delivers stream old now answer.bytes.items answer.sent told.sent
       → told.bytes.items ≡ answer.bytes.items → IsServedSo stream start old got before → IsServedSo stream start now got (Some told)
@@ -118,11 +118,11 @@ module _ {L : Type 0} (stream : Stream L) where
       let belongs = subst (λ (a : Option PendingResponse). IsServedSo stream start old got a) is of in
       subst (λ (bytes : List ℕ). IsSent stream now bytes told.sent) (sym same) (told_more stream old now answer.bytes.items answer.sent told.sent belongs delivers)
 
-  -- it now has a response, none of which has been sent
+  -- the connection now has a response, none of which has been sent
   pub told_nothing : (start now : L) (got answer : List ℕ) (sent : ℕ) → sent ≡ 0 → IsReceived stream start now got → IsSent stream now answer sent
   told_nothing start now got answer sent none received = subst (λ (n : ℕ). IsSent stream now answer n) (sym none) (told_none stream start now got answer received)
 
-  -- its request, which is complete, is processed
+  -- the connection's request, which is complete, is processed
   pub has_turn : {S : Type 0} (settings : ServerSettingsEntry) (state_of : Held S → State) (now : ℕ) (old mid new : Client L) (before later : ServedOffice S) → old.answer ≡ None
       → Receives stream old.stream mid.stream old.got.items mid.got.items → mid.listener ≡ old.listener → mid.number ≡ old.number
       → HasComeAt old.listener settings (stream.held mid.stream) mid.got.items
@@ -168,7 +168,7 @@ module _ {L : Type 0} (stream : Stream L) where
   ends_lost result Evicted client is lost broken none = absurd (lost.2 is)
   ends_lost result Closing client is lost broken none = absurd (lost.3 is)
 
-  -- the exchanges of a connection, according to its outcome
+  -- the exchanges of a connection, given its outcome
   pub has_some : {S : Type 0} (settings : ServerSettingsEntry) (state_of : Held S → State) (now : ℕ) (old new : Client L) (before later : ServedOffice S)
       → MayHaveResponded settings stream state_of now old new before later
       → (exchanges : List Exchange) × HasExchanges settings stream state_of now exchanges old new before later
@@ -182,7 +182,7 @@ module _ {L : Type 0} (stream : Stream L) where
   Comes settings state_of now result before later old new at behind =
       (exchanges : List Exchange) × HasExchanges settings stream state_of now exchanges old new at behind × IsServiceOutcome stream (map response_at exchanges) old new result before later
 
-  -- its request was processed, and its half minute starts again
+  -- the connection's request was processed, and its half minute starts again
   pub went_served : {S : Type 0} (settings : ServerSettingsEntry) (state_of : Held S → State) (now : ℕ) (serviced : Serviced) (old mid new : Client L)
       (at behind : ServedOffice S) (before later : NetworkEntry L)
       → Services settings stream state_of now serviced old mid at behind → serviced ≡ Served → answer_of new ≡ answer_of mid → later ≡ with_moment before new.since
@@ -203,7 +203,7 @@ module _ {L : Type 0} (stream : Stream L) where
       } in
       (turn.exchange ∷ [], (belongs, refl), inr ((response_at turn.exchange, refl), shown))
 
-  -- the same, and then the clock failed
+  -- the connection's request was processed, and then the clock failed
   pub went_stopped : {S : Type 0} (settings : ServerSettingsEntry) (state_of : Held S → State) (now : ℕ) (serviced : Serviced) (broken : Failure)
       (old new : Client L) (at behind : ServedOffice S) (before later : NetworkEntry L)
       → Services settings stream state_of now serviced old new at behind → serviced ≡ Served → new.since ≡ old.since → later ≡ with_failure before
@@ -212,13 +212,13 @@ module _ {L : Type 0} (stream : Stream L) where
       let turn : HasResponded settings stream state_of now old new at behind = subst (λ (a : Serviced). Services settings stream state_of now a old new at behind) is attends in
       (turn.exchange ∷ [], (turn, refl), (since, failed))
 
-  -- it waits, and its request wasn't processed
+  -- the connection waits, and its request wasn't processed
   pub went_waits : {S : Type 0} (settings : ServerSettingsEntry) (state_of : Held S → State) (now : ℕ) (serviced : Serviced) (old new : Client L) (at behind : ServedOffice S) (before : NetworkEntry L)
       → Services settings stream state_of now serviced old new at behind → serviced ≡ Waits → new.since ≡ old.since → Comes settings state_of now (Ok None) before before old new at behind
   went_waits settings state_of now serviced old new at behind before attends is since =
       ([], subst (λ (a : Serviced). Services settings stream state_of now a old new at behind) is attends, inl (refl, since, refl))
 
-  -- it is closed, whether or not its request was processed
+  -- the connection is closed, whether or not its request was processed
   pub went_away : {S : Type 0} (settings : ServerSettingsEntry) (state_of : Held S → State) (now : ℕ) (serviced : Serviced) (why : CloseReason)
       (old new : Client L) (at behind : ServedOffice S) (before : NetworkEntry L)
       → Services settings stream state_of now serviced old new at behind → serviced ≡ Leaves why → new.since ≡ old.since → EndsFor stream why new
@@ -255,7 +255,7 @@ module _ {L : Type 0} (stream : Stream L) where
         comes = subst (λ (d : NetworkEntry L). IsServiceOutcome stream (map response_at exchanges) old new result d later) still came;
       }
 
-  -- the clock failed there, so the connection wasn't serviced
+  -- the clock failed at the gate, so the connection wasn't serviced
   pub went_nowhere : {S : Type 0} (gated : Bool) (settings : ServerSettingsEntry) (state_of : Held S → State) (broken : Failure) (before later : NetworkEntry L)
       (client : Client L) (at : ServedOffice S)
       → LooksAtGate gated (Err broken) before later → WasServiced gated settings stream state_of (Err broken) before later client client at at

@@ -29,8 +29,8 @@ use Rattle.server.specs.declared.serve_error.ServeError.{ServeError}
 
 -- ---- one request, along with a clerk's view of the office
 
--- These bytes ask for something under a clerk's number: recording a keying, the clerk's work, the candidates of a batch, what the clerk keyed for it earlier, the
--- clerk's page, or signing out.
+-- The given bytes ask for something under a clerk's number: to record a keying, to show the clerk's work, the candidates of a batch, what the clerk keyed for the batch
+-- earlier or the clerk's page, or to sign out.
 pub record IsUnder (settings : HttpSettingsEntry) (clerk : ℕ) (bytes : List ℕ) : Type 0 where
   pub asked : HttpRequestEntry
   pub asks : Asks settings bytes asked
@@ -41,15 +41,15 @@ abbrev pub ClerksAskNoOrder : Type 0
 ClerksAskNoOrder = (settings : HttpSettingsEntry) (clerk : ℕ) (bytes : List ℕ) → IsUnder settings clerk bytes → AsksNoOrder settings bytes
 
 -- A client that sends no order was served, along with a clerk's view of the office. If it asked for something under the clerk's number, the view alone determines the
--- response: it is what the office's machine and its reads answer at the view, and the client's own request leads to the next view. The response to a rejected request
--- depends only on its own bytes. A client that didn't ask for anything under the clerk's number leaves the view unchanged. This says nothing about the responses to
--- other clerks and to public reads.
+-- response: the response is what the office's state machine and its reads answer in the view, and the client's own request leads to the next view. The response to a
+-- rejected request depends only on its own bytes. A client that didn't ask for anything under the clerk's number leaves the view unchanged. This says nothing about the
+-- responses to other clerks and to public reads.
 pub record IsAnsweredBySeen (settings : ServerSettingsEntry) (clerk : ℕ) (view : OfficeState) (exchange : Exchange) (next : OfficeState) : Type 0 where
   pub own : IsUnder settings.clients clerk exchange.got → (sent : List Request) × IsClientAnsweredAt settings view exchange sent × (next ≡ after view sent)
   pub denied : (why : RequestError) → Asks settings.clients exchange.got (denied why) → IsClientAnsweredAt settings view exchange []
   pub other : (IsUnder settings.clients clerk exchange.got → ⊥) → next ≡ view
 
--- An order that was handed over was carried out at a state of which the clerk has this view; the next view is that of the state after the order's requests.
+-- An order that was handed over was carried out in a state that the clerk sees as the given view; the next view is what the clerk sees after the order's requests.
 pub record IsFollowedBySeen {S : Type 0} (state_of : Held S → State) (settings : ServerSettingsEntry) (clerk : ℕ) (view : OfficeState) (exchange : Exchange) (next : OfficeState) : Type 0 where
   pub s : OfficeState
   pub seen : seen_by clerk s ≡ view
@@ -58,7 +58,7 @@ pub record IsFollowedBySeen {S : Type 0} (state_of : Held S → State) (settings
   pub tells : OrderPrints state_of settings s exchange.got exchange.answer sent last
   pub made : next ≡ seen_by clerk (after s sent)
 
--- the same for an order from the console, which is sent by a client
+-- an order from the console, which a client sends, was carried out in the same sense
 pub record IsConsoleBySeen {S : Type 0} (state_of : Held S → State) (settings : ServerSettingsEntry) (clerk : ℕ) (view : OfficeState) (exchange : Exchange) (next : OfficeState) : Type 0 where
   pub s : OfficeState
   pub seen : seen_by clerk s ≡ view
@@ -67,39 +67,40 @@ pub record IsConsoleBySeen {S : Type 0} (state_of : Held S → State) (settings 
   pub tells : ConsolePrints state_of settings s exchange.got exchange.answer sent last
   pub made : next ≡ seen_by clerk (after s sent)
 
--- the request of a client or of an order was processed, and led from one view to the next
+-- the request of a client, or an order, was processed, and led from one view to the next
 abbrev pub RespondsBySeen : {S : Type 0} → Listener → (Held S → State) → ServerSettingsEntry → ℕ → OfficeState → Exchange → OfficeState → Type 0
 RespondsBySeen Clients state_of settings clerk view exchange next = IsAnsweredBySeen settings clerk view exchange next ⊎ IsConsoleBySeen state_of settings clerk view exchange next
 RespondsBySeen Orders state_of settings clerk view exchange next = IsFollowedBySeen state_of settings clerk view exchange next
 
--- A fault closed the office. The response to a client that sends no order is the fault, and the output of an order is its output at some state of which the clerk has
--- this view.
+-- A fault closed the office. The response to a client that sends no order is the fault, and the output of an order is its output in some state that the clerk sees as
+-- the given view.
 abbrev pub IsStoppedBySeen : {S : Type 0} → Listener → (Held S → State) → ServerSettingsEntry → ℕ → OfficeState → Exchange → Type 0
 IsStoppedBySeen Clients state_of settings clerk view exchange =
     (AsksNoOrder settings.clients exchange.got × EndsSo exchange (IsServed TellsFault)) ⊎ ((next : OfficeState) × IsConsoleBySeen state_of settings clerk view exchange next)
 IsStoppedBySeen Orders state_of settings clerk view exchange = (next : OfficeState) × IsFollowedBySeen state_of settings clerk view exchange next
 
 -- All requests are processed in turn, and the clerk's view determines the responses to the clerk. The view is changed by the clerk's own requests and by orders, but by
--- nothing that another clerk sends. Or a fault closed the office during one of the requests, and every later one gets the response saying that the office is closed.
+-- nothing that another clerk sends. Or a fault closed the office during one of the requests, and every later request gets the response saying that the office is
+-- closed.
 abbrev pub AnswersAsSeen : {S : Type 0} → (Held S → State) → ServerSettingsEntry → ℕ → OfficeState → List Exchange → Type 0
 AnswersAsSeen state_of settings clerk view [] = ⊤
 AnswersAsSeen state_of settings clerk view (exchange ∷ exchanges) =
     ((next : OfficeState) × RespondsBySeen exchange.listener state_of settings clerk view exchange next × AnswersAsSeen state_of settings clerk next exchanges)
     ⊎ (IsStoppedBySeen exchange.listener state_of settings clerk view exchange × AreRefusedClosed settings exchanges)
 
--- The law: for any sequence of requests processed from a state on, what each clerk sees of that state determines the responses to that clerk.
+-- The law: for any sequence of requests processed from a given state on, what each clerk sees of that state determines the responses to that clerk.
 abbrev pub ClerksAreAnsweredAsSeen : {S : Type 0} → (Held S → State) → Type 0
 ClerksAreAnsweredAsSeen state_of =
     (settings : ServerSettingsEntry) (s : OfficeState) (exchanges : List Exchange) (answered last : List Request) → IsState s → AnswersInTurn state_of settings s exchanges answered last
     → (clerk : ℕ) → is_clerk clerk ≡ true → AnswersAsSeen state_of settings clerk (seen_by clerk s) exchanges
 
--- The same for requests to an office that earlier requests led to, given what is kept of them.
+-- The same law for requests to an office that has already processed others, given what is kept of those.
 abbrev pub KeptAreAnsweredAsSeen : {S : Type 0} → (Held S → State) → Type 0
 KeptAreAnsweredAsSeen {S} state_of =
     (settings : ServerSettingsEntry) (earlier : List Request) (exchanges : List Exchange) (closed : Bool) (held : Held S) → KeepsExchanges state_of settings earlier exchanges closed (state_of held)
     → (clerk : ℕ) → is_clerk clerk ≡ true → AnswersAsSeen state_of settings clerk (seen_by clerk (after empty_office earlier)) exchanges
 
--- The same for a server, for any requests that it processed as promised.
+-- The same law for a server, for any requests that it has processed as promised.
 abbrev pub ServersAnswerAsSeen : {L S : Type 0} → Stream L → (Held S → State) → Type 0
 ServersAnswerAsSeen {L} {S} stream state_of =
     (settings : ServerSettingsEntry) (before later : NetworkEntry L) (most : Option ℕ) (old new : OfficeValue S) (result : Result (Unit {0}) ServeError)
@@ -109,29 +110,29 @@ ServersAnswerAsSeen {L} {S} stream state_of =
 
 -- ---- two services that look alike to a clerk
 
--- the exchanges from a list that are under a clerk's number, in order
+-- those exchanges from a list that are under a clerk's number, in order
 abbrev pub AreOwn : HttpSettingsEntry → ℕ → List Exchange → List Exchange → Type 0
 AreOwn settings clerk [] own = own ≡ []
 AreOwn settings clerk (exchange ∷ exchanges) own =
     (IsUnder settings clerk exchange.got × ((later : List Exchange) × (own ≡ exchange ∷ later) × AreOwn settings clerk exchanges later))
     ⊎ ((IsUnder settings clerk exchange.got → ⊥) × AreOwn settings clerk exchanges own)
 
--- each exchange is that of a client that sends no order
+-- each exchange is with a client that sends no order
 abbrev pub AreClients : HttpSettingsEntry → List Exchange → Type 0
 AreClients settings [] = ⊤
 AreClients settings (exchange ∷ exchanges) = (exchange.listener ≡ Clients) × AsksNoOrder settings exchange.got × AreClients settings exchanges
 
--- a client got no answer: there was a fault, the office was closed or its file gone, or the client must wait
+-- a client got no answer: there was a fault, the office was closed, its file was gone, or the client had to wait
 abbrev pub IsUnanswered : ServerSettingsEntry → Exchange → Type 0
 IsUnanswered settings exchange = EndsSo exchange (IsServed TellsFault) ⊎ GetsClosedResponse Clients settings exchange
 
--- the same response was sent in two exchanges, except where its allocation failed
+-- two exchanges have the same response, unless its allocation failed in one of them
 pub record AreSentTheSame (one two : Exchange) : Type 0 where
   pub answer : ResponseEntry
   pub first : EndsSo one (IsServed (IsTold answer))
   pub second : EndsSo two (IsServed (IsTold answer))
 
--- the same was sent in the first exchanges of two lists, in the second ones, and so on, until one of them got no answer
+-- the first exchanges of two lists have the same response, and so do the second ones, and so on, until one of them gets no answer
 abbrev pub AreAnsweredAlike : ServerSettingsEntry → List Exchange → List Exchange → Type 0
 AreAnsweredAlike settings [] others = others ≡ []
 AreAnsweredAlike settings (one ∷ ones) [] = ⊥

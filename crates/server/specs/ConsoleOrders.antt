@@ -23,27 +23,27 @@ use Rattle.server.specs.Settings.{ServerSettingsEntry}
 use Rattle.server.specs.declared.served_order.ServedOrder.{ServedOrder}
 use Rattle.server.specs.declared.served_order.ServedOrder.TheVariants as asked
 
--- ---- what it asks for
+-- ---- what an order asks for
 
--- its words, as typed after DB
+-- the words of an order, as typed after DB
 abbrev pub typed_words : List Text → List Text
 typed_words words = codes "DB" ∷ words
 
--- a file sent with it: its name and its text
+-- a file sent with an order: its name and its text
 abbrev pub sent_file : ConsoleFileEntry → MessagePartEntry
 sent_file file = record { name = file.name; bytes = Some file.text }
 
--- an order asks for this, given the files sent with it; or an allocation failed
+-- what an order asks for, given the files sent with it; or an allocation failed
 abbrev pub AsksConsole : ServerSettingsEntry → ConsoleOrderEntry → List MessagePartEntry → ServedOrder → Type 0
 AsksConsole settings entry files what = ((files ≡ map sent_file entry.files) × AsksSo settings.whole (typed_words entry.words) what) ⊎ ((what ≡ asked.Refused (Office Memory)) × (files ≡ []))
 
--- ---- its output
+-- ---- the output
 
--- the response with what an order printed on its two outputs, and with its status; or that the output failed (107), if what it printed on either isn't UTF-8
+-- the response with what an order printed to its two outputs, and with its status; or the response saying that the output failed (107), if what it printed to either isn't UTF-8
 abbrev pub printed_response : ℕ → List ℕ → List ℕ → ResponseEntry
 printed_response status out err = if is_utf8 out && is_utf8 err then order_response status out err else fault_response 107
 
--- a response contains this part of a page: exactly what its two outputs accepted
+-- a response contains the given part of a page: exactly what the two outputs accepted
 pub record HasPrinted (cut : Cut) (page : Page) (response : Response) : Type 0 where
   pub told : Outputs
   pub status : ℕ
@@ -54,13 +54,13 @@ pub record HasPrinted (cut : Cut) (page : Page) (response : Response) : Type 0 w
   pub is_err : told.err ≡ Some err
   pub tells : IsTold (printed_response status out err) response
 
--- the response that was written contains this part of a page
+-- the response that was written contains the given part of a page
 abbrev pub IsInResponse : Cut → Page → List ℕ → Type 0
 IsInResponse cut page answer = EndsIn answer (IsServed (HasPrinted cut page))
 
 -- ---- the outcome
 
--- what an order from the console asks for was carried out, and its page was sent in this response
+-- what an order from the console asks for was carried out, and its page was sent in the given response
 pub record FollowsEntry {S : Type 0} (settings : ServerSettingsEntry) (state_of : Held S → State) (old : OfficeValue S) (entry : ConsoleOrderEntry) (IsSent : Cut → Page → Type 0)
     (new : OfficeValue S) : Type 0 where
   pub files : List MessagePartEntry
@@ -68,15 +68,15 @@ pub record FollowsEntry {S : Type 0} (settings : ServerSettingsEntry) (state_of 
   pub is : AsksConsole settings entry files asked
   pub tells : Follows state_of old files asked IsSent new
 
--- the order from the console that these bytes contain was processed, and this is the response
+-- the order from the console that the given bytes contain was processed, with the given response
 pub record FollowsConsole {S : Type 0} (settings : ServerSettingsEntry) (state_of : Held S → State) (old : OfficeValue S) (got answer : List ℕ) (new : OfficeValue S) : Type 0 where
   pub entry : ConsoleOrderEntry
   pub asks : Asks settings.clients got (order entry)
   pub follows : FollowsEntry settings state_of old entry (λ cut page. IsInResponse cut page answer) new
 
--- ---- its output at a state
+-- ---- the output in a given state
 
--- the order from the console that these bytes contain printed its page at a state, in this response
+-- the order from the console that the given bytes contain printed its page in a given state, in the given response
 pub record ConsolePrints {S : Type 0} (state_of : Held S → State) (settings : ServerSettingsEntry) (s : OfficeState) (got answer : List ℕ) (sent last : List Request) : Type 0 where
   pub entry : ConsoleOrderEntry
   pub asks : Asks settings.clients got (order entry)
@@ -88,7 +88,7 @@ pub record ConsolePrints {S : Type 0} (state_of : Held S → State) (settings : 
   pub told : IsInResponse cut page answer
   pub tells : PrintsAt state_of (folder_of files) s asked cut page sent last
 
--- the order from the console that these bytes contain found the office closed, and this response says so
+-- the order from the console that the given bytes contain found the office closed, and the response says so
 pub record IsConsoleTurnedAway (settings : ServerSettingsEntry) (got answer : List ℕ) : Type 0 where
   pub entry : ConsoleOrderEntry
   pub asks : Asks settings.clients got (order entry)

@@ -1,4 +1,4 @@
--- The requests of clients and orders, processed in one office, one at a time, and what is kept of them.
+-- Requests from clients, and orders, processed in one office, one at a time, and what is kept of them.
 use Rattle.std.specs.Prelude.{◌≡◌, ◌⊎◌, ⊤, Bool, true, false, List, [], ◌∷◌, ◌++◌, Option, Some, length, ℕ}
 use Rattle.sqlite.specs.Held.{Held}
 use Rattle.sqlite.specs.State.{HasCleanDisk, State}
@@ -25,8 +25,8 @@ use Rattle.server.specs.ConsoleOrders.{FollowsConsole, IsConsoleTurnedAway, Cons
 use Rattle.server.specs.Reads.{AreReadAt, ServedOffice, limit_after, must_wait}
 use Rattle.server.specs.Settings.{ServerSettingsEntry}
 
--- A request of a client or an order, and its response: the listener on which its connection came in, the connection's number, and the time at which it was processed,
--- in milliseconds of a clock. Then come the bytes received, and the response.
+-- A request from a client, or an order, and its response: the listener that accepted the connection, the connection's number, the time at which the request was
+-- processed, in milliseconds of a clock, the bytes received, and the response.
 pub record Exchange : Type 0 where
   pub listener : Listener
   pub number : ℕ
@@ -34,13 +34,13 @@ pub record Exchange : Type 0 where
   pub got : List ℕ
   pub answer : List ℕ
 
--- ---- one request, in an office with its file, and with the origin of a proxy or none
+-- ---- one request, given the office's file and the origin of a proxy, if any
 
--- a response was written, from its first byte on, with this outcome
+-- a response was written, from its first byte on, with the given outcome
 abbrev pub EndsSo : Exchange → (Option (List ℕ) → Option (List ℕ) → Served → Type 0) → Type 0
 EndsSo exchange IsEnd = EndsIn exchange.answer IsEnd
 
--- The office answered a request. If it was open, these bytes are the response, with the state that it left; if it was closed, they say so.
+-- The office answered a request. If it was open, the given bytes are the response, with the state that the request left; if it was closed, they say so.
 pub record HasAnswered {S : Type 0} (state_of : Held S → State) (old : OfficeValue S) (asked : HttpRequestEntry) (answer : List ℕ) (new : OfficeValue S) : Type 0 where
   pub serves : WhenOpenAt state_of old new (λ s. EndsIn answer (IsServed (λ response. Readies s asked response new.closed (state_of new.held))))
   pub turned_away : old.closed ≡ true → EndsIn answer (IsServed (IsTold (closed_response asked))) × (new ≡ old)
@@ -56,19 +56,19 @@ ChangesNothing (console show) = ⊤
 ChangesNothing (order entry) = ⊥
 ChangesNothing (public its what) = ⊤
 
--- these bytes don't contain an order from the console
+-- the given bytes don't contain an order from the console
 abbrev pub AsksNoOrder : HttpSettingsEntry → List ℕ → Type 0
 AsksNoOrder settings bytes = (entry : ConsoleOrderEntry) → Asks settings bytes (order entry) → ⊥
 
--- what processing a request leaves of the cache: it is empty; or the request changes nothing, and if the cache was right at the state, it still is
+-- what processing a request leaves in the cache: nothing; or the request changes nothing, and if the cache was correct in the state, it still is
 abbrev pub KeepsReads : {S : Type 0} → HttpSettingsEntry → (Held S → State) → ServedOffice S → List ℕ → ServedOffice S → Type 0
 KeepsReads settings state_of old got new =
     (new.kept.reads ≡ [])
     ⊎ (((asked : HttpRequestEntry) × Asks settings got asked × ChangesNothing asked)
     × WhenOpenAt state_of old.office new.office (λ s. AreReadAt s old.kept.reads → AreReadAt s new.kept.reads × IsReadAt s new.office.closed (state_of new.office.held)))
 
--- A client was served, by the office or from the cache. If the office was open and the cache was right, the response answers the client's request, with the state that
--- it left. If the office was closed, the response says so.
+-- A client was served, by the office or from the cache. If the office was open and the cache was correct, the response answers the client's request, with the state
+-- that the request left. If the office was closed, the response says so.
 pub record ServesClient {S : Type 0} (settings : HttpSettingsEntry) (state_of : Held S → State) (old : ServedOffice S) (exchange : Exchange) (new : ServedOffice S) : Type 0 where
   pub serves : WhenOpenAt state_of old.office new.office
       (λ s. AreReadAt s old.kept.reads → EndsSo exchange (IsServed (λ response. ReadiesFor settings (Some exchange.got) s response new.office.closed (state_of new.office.held))))
@@ -84,7 +84,7 @@ IsWaitResponse exchange = EndsSo exchange (IsServed (IsWritten waits_response))
 abbrev pub IsGoneResponse : Exchange → Type 0
 IsGoneResponse exchange = EndsSo exchange (IsServed (IsWritten (fault_response 113)))
 
--- a client is turned away: it must wait, or the file is gone (and wasn't known to be whole)
+-- a client is turned away: it must wait, or the file is gone (and isn't known to be whole)
 abbrev pub IsRejected : ServerSettingsEntry → Exchange → Type 0
 IsRejected settings exchange = IsWaitResponse exchange ⊎ (IsGoneResponse exchange × (settings.whole ≡ Some true → ⊥))
 
@@ -122,8 +122,8 @@ abbrev pub RespondsToClient : {S : Type 0} → ServerSettingsEntry → (Held S �
 RespondsToClient settings state_of old exchange new =
     (IsRateLimited settings.clients old exchange new ⊎ IsWithoutFile settings old exchange new) ⊎ IsAdmitted settings state_of old exchange new
 
--- The request of a connection from this listener was processed: a client's as above; or an order that is handed over is carried out, the cache is emptied, and no wrong
--- code is counted.
+-- The request of a connection from the given listener was processed: a client's request as above; or an order that is handed over is carried out, the cache is emptied,
+-- and no wrong code is counted.
 abbrev pub ServesAt : {S : Type 0} → Listener → ServerSettingsEntry → (Held S → State) → ServedOffice S → Exchange → ServedOffice S → Type 0
 ServesAt Clients settings state_of old exchange new = RespondsToClient settings state_of old exchange new
 ServesAt Orders settings state_of old exchange new =
@@ -134,7 +134,7 @@ ServesExchange settings state_of old exchange new = ServesAt exchange.listener s
 
 -- ---- one request after another
 
--- the last request is the clerk's keying that these bytes contain, or there is none
+-- the last request is the clerk's keying that the given bytes contain, or there is none
 abbrev pub IsLastFor : HttpSettingsEntry → List ℕ → List Request → Type 0
 IsLastFor settings bytes last =
     (last ≡ [])
@@ -148,20 +148,20 @@ GetsClosedResponse Clients settings exchange =
     ⊎ IsConsoleTurnedAway settings exchange.got exchange.answer
 GetsClosedResponse Orders settings exchange = IsRefusedClosed settings exchange.got exchange.answer
 
--- the same for each of these exchanges
+-- each of the given exchanges has such a response
 abbrev pub AreRefusedClosed : ServerSettingsEntry → List Exchange → Type 0
 AreRefusedClosed settings [] = ⊤
 AreRefusedClosed settings (exchange ∷ exchanges) = GetsClosedResponse exchange.listener settings exchange × AreRefusedClosed settings exchanges
 
--- A client that sends no order is served at a state, and these commands were answered for it: none, or one keying, in which case the response is the office's reply to
--- it. For a client that is turned away there are none.
+-- A client that sends no order is served in a given state, and the given commands were answered for it: none, or one keying, and then the response is the office's
+-- reply to that keying. For a client that is turned away there are none.
 abbrev pub IsClientAnsweredAt : ServerSettingsEntry → OfficeState → Exchange → List Request → Type 0
 IsClientAnsweredAt settings s exchange sent =
     (IsRejected settings exchange × (sent ≡ []))
     ⊎ (AsksNoOrder settings.clients exchange.got × EndsSo exchange (IsServed (TellsFor settings.clients (Some exchange.got) s sent)))
 
--- A request is processed at a state, and these commands were answered for it: a client's as above; or those reported in the output of an order, whether from the console or
--- handed over.
+-- A request is processed in a given state, and the given commands were answered for it: a client's as above; or those reported in the output of an order, whether from
+-- the console or handed over.
 abbrev pub IsAnsweredAt : {S : Type 0} → Listener → (Held S → State) → ServerSettingsEntry → OfficeState → Exchange → List Request → Type 0
 IsAnsweredAt Clients state_of settings s exchange sent =
     IsClientAnsweredAt settings s exchange sent ⊎ ((last : List Request) × ConsolePrints state_of settings s exchange.got exchange.answer sent last)
@@ -174,15 +174,15 @@ pub record IsClientStopped (settings : ServerSettingsEntry) (exchange : Exchange
   pub none : answered ≡ []
   pub is_last : IsLastFor settings.clients exchange.got last
 
--- A fault closed the office during a request: these commands were answered for it, and one more may or may not be kept. The response to a client is the fault, and the
--- output of an order reports it.
+-- A fault closed the office during a request: the given commands were answered for it, and another one may or may not be kept. The response to a client is the fault,
+-- and the output of an order reports it.
 abbrev pub IsStoppedAt : {S : Type 0} → Listener → (Held S → State) → ServerSettingsEntry → OfficeState → Exchange → List Request → List Request → Type 0
 IsStoppedAt Clients state_of settings s exchange answered last =
     IsClientStopped settings exchange answered last ⊎ ConsolePrints state_of settings s exchange.got exchange.answer answered last
 IsStoppedAt Orders state_of settings s exchange answered last = OrderPrints state_of settings s exchange.got exchange.answer answered last
 
--- All requests are processed in turn, each as the office's machine says for the state at which it is processed, and these commands were answered for them. Or a fault
--- closed the office during one of them, and every later one gets the response saying that the office is closed.
+-- All requests are processed in turn, each as the office's state machine says for the state in which it is processed, and the given commands were answered for them. Or
+-- a fault closed the office during one of them, and every later one gets the response saying that the office is closed.
 abbrev pub AnswersInTurn : {S : Type 0} → (Held S → State) → ServerSettingsEntry → OfficeState → List Exchange → List Request → List Request → Type 0
 AnswersInTurn state_of settings s [] answered last = (answered ≡ []) × (last ≡ [])
 AnswersInTurn state_of settings s (exchange ∷ exchanges) answered last =
@@ -190,7 +190,7 @@ AnswersInTurn state_of settings s (exchange ∷ exchanges) answered last =
     × AnswersInTurn state_of settings (after s sent) exchanges others last)
     ⊎ (IsStoppedAt exchange.listener state_of settings s exchange answered last × AreRefusedClosed settings exchanges)
 
--- What is kept of the requests that were processed, after earlier ones. An open office is at the state after all requests that were answered. Whatever a stop leaves is
+-- What is kept of the requests that were processed, after earlier ones. An open office is in the state after all requests that were answered. Whatever a stop leaves is
 -- the state after the accepted requests of a prefix, which contains every earlier request, every one that was answered, and at most one more.
 pub record KeepsExchanges {S : Type 0} (state_of : Held S → State) (settings : ServerSettingsEntry) (earlier : List Request) (exchanges : List Exchange) (closed : Bool) (st : State) : Type 0 where
   pub answered : List Request

@@ -1,4 +1,4 @@
--- The server's memory: the cache of reads, and the wrong codes that were sent.
+-- What the server keeps in memory: the cache of reads, and the wrong codes that were sent.
 use Rattle.std.specs.Prelude.{◌≡◌, ◌&&◌, Bool, false, List, [], None, Option, Some, if◌then◌else◌, map, ℕ}
 use Rattle.std.specs.List.{All}
 use Rattle.register.specs.Offices.{OfficeState}
@@ -25,7 +25,7 @@ read_entry k = record { what = k.what; answer = k.answer.items }
 abbrev pub reads_in : ReadCache → List ReadEntry
 reads_in kept = map read_entry kept.answers.items
 
--- This is the response to a read at a state, byte for byte.
+-- The given bytes are exactly the response to a read in a given state.
 pub record IsRead (s : OfficeState) (what : Resource) (answer : List ℕ) : Type 0 where
   pub status : ℕ
   pub told : IsServed (λ response. IsTold (reading_response s what) response) (Some []) (Some answer) (Answered status)
@@ -36,7 +36,7 @@ IsNoFault (Answered status) = status ≡ 503 → ⊥
 IsNoFault ReadFailed = ⊥
 IsNoFault WriteFailed = ⊥
 
--- each cached response is the right one at this state
+-- each cached response is correct in the given state
 abbrev pub AreReadAt : OfficeState → List ReadEntry → Type 0
 AreReadAt s reads = All (λ r. IsRead s r.what r.answer) reads
 
@@ -52,7 +52,7 @@ abbrev pub limit_after : Option AuthenticationEntry → ℕ → LimitEntry → L
 limit_after None now limit = limit
 limit_after (Some authentication) now limit = if authentication.is_wrong then counted now limit else limit
 
--- ---- both
+-- ---- what is kept in memory
 
 -- the cached responses, and the wrong codes sent so far
 pub record MemoryEntry : Type 0 where

@@ -13,16 +13,16 @@ use Rattle.server.specs.Settings.{ServerSettingsEntry}
 use Rattle.server.specs.Servicing.{HasComeAt, answer_of}
 use Rattle.server.specs.Exchanges.{Exchange}
 
--- a connection: its initial state when accepted, and its stream at the end
+-- a connection: its state when accepted, and its stream's final state
 pub record ServedConnection (L : Type 0) : Type 0 where
   pub came : Accepted L
   pub last : L
 
--- the exchanges of the connection with this number
+-- the exchanges of the connection with the given number
 abbrev pub exchanges_of : ℕ → List Exchange → List Exchange
 exchanges_of number exchanges = filter (λ exchange. exchange.number == number) exchanges
 
--- The bytes received for a request are the connection's own, from the first one on, until the request was complete.
+-- The bytes received for a request are the connection's own, from the first one until the request was complete.
 pub record IsGathered {L : Type 0} (settings : ServerSettingsEntry) (stream : Stream L) (came : Accepted L) (exchange : Exchange) : Type 0 where
   pub listener : exchange.listener ≡ came.listener
   pub received : L
@@ -30,13 +30,13 @@ pub record IsGathered {L : Type 0} (settings : ServerSettingsEntry) (stream : St
   pub come : HasComeAt came.listener settings (stream.held received) exchange.got
 
 -- What happened to a connection, according to its exchanges. Either its request wasn't processed, and nothing was sent. Or its request was processed, from its own
--- bytes; and of the response to exactly these bytes, a prefix was sent, and nothing else.
+-- bytes; and a prefix of the response to exactly these bytes was sent, and nothing else.
 abbrev pub HadExchange : {L : Type 0} → ServerSettingsEntry → Stream L → ServedConnection L → List Exchange → Type 0
 HadExchange settings stream connection [] = HasTaken (stream.taken connection.last) []
 HadExchange settings stream connection (exchange ∷ []) = IsGathered settings stream connection.came exchange × ((sent : ℕ) × IsSent stream connection.last exchange.answer sent)
 HadExchange settings stream connection (exchange ∷ other ∷ more) = ⊥
 
--- This happened to each connection (the first one has number 0), and each exchange belongs to one of them.
+-- Each connection had its exchanges as above (the first connection has number 0), and each exchange belongs to one of the connections.
 pub record AllHadExchanges {L : Type 0} (settings : ServerSettingsEntry) (stream : Stream L) (all_connections : List (ServedConnection L)) (exchanges : List Exchange) : Type 0 where
   pub each : (number : ℕ) (connection : ServedConnection L) → number < length all_connections
       → HadExchange settings stream (slice_index_or all_connections number connection) (exchanges_of number exchanges)
@@ -44,7 +44,7 @@ pub record AllHadExchanges {L : Type 0} (settings : ServerSettingsEntry) (stream
 
 -- ---- connections that were closed
 
--- What the reason for closing implies: if done, the whole response was sent; if broken, a call of the stream failed.
+-- What the reason for closing implies: if done, the whole response was sent; if broken, a call on the stream failed.
 abbrev pub IsWhy : {L : Type 0} → Stream L → CloseReason → L → List Exchange → Type 0
 IsWhy stream Done last [] = ⊥
 IsWhy stream Done last (exchange ∷ exchanges) = HasTaken (stream.taken last) exchange.answer
@@ -54,7 +54,7 @@ IsWhy stream TimedOut last exchanges = ⊤
 IsWhy stream Evicted last exchanges = ⊤
 IsWhy stream Closing last exchanges = ⊤
 
--- a connection was handed back under its number, with its stream at the end, and with a reason that applies
+-- a connection was handed back under its number, with its stream in its final state, and with a reason that applies
 pub record WasClosed {L : Type 0} (stream : Stream L) (gone : List (Removed L)) (exchanges : List Exchange) (number : ℕ) (connection : ServedConnection L) : Type 0 where
   pub why : CloseReason
   pub back : Contains gone (record { number = number; stream = connection.last; why = why })
@@ -62,13 +62,13 @@ pub record WasClosed {L : Type 0} (stream : Stream L) (gone : List (Removed L)) 
 
 -- ---- connections that are open
 
--- a connection with this number is open
+-- a connection with the given number is open
 pub record IsOpenUnder {L : Type 0} (clients : List (Client L)) (number : ℕ) : Type 0 where
   pub place : ℕ
   pub within : place < length clients
   pub belongs : (client : Client L) → (slice_index_or clients place client).number ≡ number
 
--- the exchanges of a connection that has this response, or has none yet
+-- the exchanges of a connection that has the given response, or none yet
 abbrev pub HasExchangeFor : Option (List ℕ) → List Exchange → Type 0
 HasExchangeFor None own = own ≡ []
 HasExchangeFor (Some answer) own = (exchange : Exchange) × (own ≡ exchange ∷ []) × (exchange.answer ≡ answer)
@@ -80,7 +80,7 @@ pub record IsOpenConnection {L : Type 0} (stream : Stream L) (exchanges : List E
   pub own : IsOf stream connection.came.stream client
   pub belongs : HasExchangeFor (answer_of client) (exchanges_of client.number exchanges)
 
--- All connections that were accepted, with their number, and those of them that are open, each under its own number. Each of the others was handed back, exactly once.
+-- All connections that were accepted, how many there were, and those that are still open, each under its own number. Each of the others was handed back, exactly once.
 pub record AreOpen {L : Type 0} (settings : ServerSettingsEntry) (stream : Stream L) (all_connections : List (ServedConnection L)) (exchanges : List Exchange) (gone : List (Removed L)) (came : ℕ)
     (clients : List (Client L)) : Type 0 where
   pub count : length all_connections ≡ came
@@ -92,7 +92,7 @@ pub record AreOpen {L : Type 0} (settings : ServerSettingsEntry) (stream : Strea
   pub left : (number : ℕ) (connection : ServedConnection L) → number < length all_connections
       → IsOpenUnder clients number ⊎ WasClosed stream gone exchanges number (slice_index_or all_connections number connection)
 
--- what holds for the table: connections were accepted and had their exchanges, and these of them are open
+-- what holds for the table: connections were accepted and had their exchanges, and those in the table are open
 abbrev pub IsSound : {L : Type 0} → ServerSettingsEntry → Stream L → ConnectionTable L → Type 0
 IsSound {L} settings stream table = (all_connections : List (ServedConnection L)) × (exchanges : List Exchange) × (gone : List (Removed L))
     × AreOpen settings stream all_connections exchanges gone table.came table.clients.items

@@ -1,5 +1,5 @@
--- An order that is handed over to the server: what its message asks, the outcome, and its output in frames. An order from the console shares the meaning of its words,
--- and how it is carried out.
+-- An order that is handed over to the server: what its message asks for, the outcome, and its output in frames. The words of an order from the console have the same
+-- meaning, and it is carried out the same way.
 use Rattle.std.specs.Prelude.{◌≡◌, ◌⊎◌, ⊤, Bool, true, List, [], ◌∷◌, None, Some, bytes_eq, drop, if◌then◌else◌, length, map, option_map, take, ◌≤◌, ◌<◌, ◌+◌, Option, ℕ}
 use Rattle.std.specs.Int.{from_be_bytes, w64}
 use Rattle.std.specs.List.{Contains, list_all}
@@ -52,7 +52,7 @@ pub record IsWholeMessage (bytes : List ℕ) : Type 0 where
 abbrev pub words_in : OrderMessageEntry → List Text
 words_in h = map (λ piece. piece.name) h.words
 
--- these words mean this order
+-- the given words mean the given order
 abbrev pub MeansOrder : List Text → Order → Type 0
 MeansOrder words o = meaning (subcommand_of office_words words) ≡ Some (told o)
 
@@ -71,8 +71,8 @@ IsForNone (order.Codes path clerks with_office) = ⊤
 IsForNone (order.Slips path address) = ⊤
 IsForNone other = ⊥
 
--- What the words of an order for this file ask for: a job, a copy, the journal, or a new office from it. Or why it isn't carried out: the words aren't an order; or the
--- file is gone (and wasn't known to be whole).
+-- What the words of an order for the served file ask for: a job, a copy, the journal, or a new office from it. Or why it isn't carried out: the words aren't an order;
+-- or the file is gone (and isn't known to be whole).
 abbrev pub AsksSo : Option Bool → List Text → ServedOrder → Type 0
 AsksSo whole words (asked.Do job) = MeansOrder words (order.Perform (task.InOffice job))
 AsksSo whole words (asked.Copy path) = MeansOrder words (order.Copy path)
@@ -83,18 +83,18 @@ AsksSo whole words (asked.Refused failure) =
     ⊎ ((failure ≡ FileGone) × ((job : Job) × MeansOrder words (order.Perform (task.InOffice job))) × (whole ≡ Some true → ⊥))
 AsksSo whole words (asked.Misread fault) = IsNoneMeant (meaning (subcommand_of office_words words)) fault
 
--- No order is decoded: an allocation failed; or the bytes aren't a message of text, or are from another version of the program, or for another file.
+-- No order is decoded: an allocation failed; or the bytes aren't a message of text, or the message is from another version of the program or for another file.
 abbrev pub IsUnread : FileNumbers → List ℕ → ServedOrder → Type 0
 IsUnread file got what =
     (what ≡ asked.Refused (Office Memory))
     ⊎ ((what ≡ asked.Refused (Office Store)) × ((h : OrderMessageEntry) → IsMessage got h → IsForFile file h → list_all is_utf8 (words_in h) ≡ true → ⊥))
 
--- these bytes ask for this, given the files sent with it
+-- what the given bytes ask for, given the files sent with the order
 abbrev pub AsksOrder : ServerSettingsEntry → List ℕ → List MessagePartEntry → ServedOrder → Type 0
 AsksOrder settings got files what =
     ((h : OrderMessageEntry) × IsMessage got h × IsForFile settings.file h × (files ≡ h.files) × AsksSo settings.whole (words_in h) what) ⊎ (IsUnread settings.file got what × (files ≡ []))
 
--- ---- its files
+-- ---- the files
 
 -- the file sent for a path; `None` if none was sent, or if it couldn't be read
 abbrev pub attached_at : List MessagePartEntry → Text → File
@@ -105,35 +105,35 @@ attached_at (p ∷ ps) path = if bytes_eq p.name path then option_map Some p.byt
 abbrev pub folder_of : List MessagePartEntry → Folder
 folder_of files path = Some (attached_at files path)
 
--- ---- its output
+-- ---- the output
 
--- two outputs to which nothing has been written yet
+-- two outputs that nothing has been written to yet
 abbrev pub untold : Outputs
 untold = record { out = Some []; out_failed = 0; err = Some []; err_failed = 0 }
 
--- What the outputs of an order accepted is sent in frames: all of the output, and all of the error output. The last frame has the status; or an allocation failed, and
--- that frame is missing.
+-- What an order's outputs accepted is sent in frames: all of the output, and all of the error output. The last frame has the status; or an allocation failed, and that
+-- frame is missing.
 pub record IsToldInFrames (told : Outputs) (status : ℕ) (frames : List ℕ) : Type 0 where
   pub err : List ℕ
   pub is_err : told.err ≡ Some err
   pub out : told.out ≡ Some (output_of frames)
   pub end : (IsOver frames status [] × (error_output_of frames ≡ err)) ⊎ AreWhole frames
 
--- this part of a page is sent in frames
+-- the given part of a page is sent in frames
 pub record IsFramed (cut : Cut) (page : Page) (frames : List ℕ) : Type 0 where
   pub told : Outputs
   pub status : ℕ
   pub shown : IsShown cut untold told page status
   pub framed : IsToldInFrames told status frames
 
--- The page for a copy of the office at a state: how much the copy contains, and possibly that its log couldn't be merged into it; or why no copy is made.
+-- The page for a copy of the office in a given state: how much the copy contains, and possibly that its log couldn't be merged into it; or why no copy is made.
 abbrev pub IsCopyTold : OfficeState → Page → Type 0
 IsCopyTold s page =
     (page ≡ replied (copied_text (holdings_of s)))
     ⊎ ((page ≡ below (replied (copied_text (holdings_of s))) (failed CopyFailed)) ⊎ ((failure : Failure) × (page ≡ failed failure)))
 
--- The outcome of what is requested at a state, and what it leaves of the office, whose connection was at `old`. A job is carried out in the office. For a copy, for the
--- journal and for a new office from it, the office is only read. An order that isn't carried out leaves it unchanged.
+-- The outcome of what is requested in a given state, and what it leaves of the office, whose connection was in the state `old`. A job is carried out in the office. For
+-- a copy, the journal, or a new office from it, the office is only read. An order that isn't carried out leaves it unchanged.
 abbrev pub IsOrderOutcome : State → Bool → State → Folder → OfficeState → ServedOrder → Cut → Page → Type 0
 IsOrderOutcome old closed st folder s (asked.Do job) cut page = ComesTo cut page (IsDone old closed st folder s job)
 IsOrderOutcome old closed st folder s (asked.Copy path) cut page = IsCopyTold s page × IsReadAt s closed st
@@ -146,7 +146,7 @@ IsOrderOutcome old closed st folder s (asked.Misread fault) cut page = (page ≡
 abbrev pub IsBareName : Text → Type 0
 IsBareName path = (0 < length path) × (Contains path 47 → ⊥)
 
--- the page printed by a closed office: that it is closed, if the order would be carried out otherwise; or else why the order isn't carried out
+-- the page that a closed office prints: it says that the office is closed, if the order would be carried out otherwise; or else why the order isn't carried out
 abbrev pub closed_office_page : ServedOrder → Page
 closed_office_page (asked.Do job) = closed_page
 closed_office_page (asked.Copy path) = closed_page
@@ -155,8 +155,8 @@ closed_office_page (asked.Mend mending) = closed_page
 closed_office_page (asked.Refused failure) = failed failure
 closed_office_page (asked.Misread fault) = words_page fault
 
--- What is requested, with these files, was carried out, and this part of its page was sent in this way. If the office was open, the page is the outcome, as far as the
--- outputs accepted it, together with the state that it left. If the office was closed, the page says so.
+-- The request, with the given files, was carried out, and the given part of its page was sent in the given way. If the office was open, the page is the outcome, as far
+-- as the outputs accepted it, together with the state that the request left. If the office was closed, the page says so.
 pub record Follows {S : Type 0} (state_of : Held S → State) (old : OfficeValue S) (files : List MessagePartEntry) (asked : ServedOrder) (IsSent : Cut → Page → Type 0) (new : OfficeValue S)
     : Type 0 where
   pub cut : Cut
@@ -166,25 +166,25 @@ pub record Follows {S : Type 0} (state_of : Held S → State) (old : OfficeValue
   pub turned_away : old.closed ≡ true → (page ≡ closed_office_page asked) × (new ≡ old)
   pub clean : HasCleanDisk (state_of new.held) → HasCleanDisk (state_of old.held)
 
--- what is requested was carried out, and these frames are the response
+-- the request was carried out, and the given frames are the response
 abbrev pub IsResponseToOrder : {S : Type 0} → (Held S → State) → OfficeValue S → List MessagePartEntry → ServedOrder → List ℕ → OfficeValue S → Type 0
 IsResponseToOrder state_of old files asked frames new = Follows state_of old files asked (λ cut page. IsFramed cut page frames) new
 
--- the order that these bytes contain was processed, and these frames are the response
+-- the order that the given bytes contain was processed, and the given frames are the response
 pub record FollowsOrder {S : Type 0} (settings : ServerSettingsEntry) (state_of : Held S → State) (old : OfficeValue S) (got frames : List ℕ) (new : OfficeValue S) : Type 0 where
   pub files : List MessagePartEntry
   pub asked : ServedOrder
   pub is : AsksOrder settings got files asked
   pub tells : IsResponseToOrder state_of old files asked frames new
 
--- ---- its output at a state
+-- ---- the output in a given state
 
--- the first n of the requests that were sent were answered, and the next one, if any, was the last one sent
+-- the first n requests that were sent were answered, and the next one, if any, was the last one sent
 abbrev pub AreAnswered : List Request → ℕ → List Request → List Request → Type 0
 AreAnswered requests answered sent last = (sent ≡ take answered requests) × (last ≡ take 1 (drop answered requests))
 
--- The page of what is requested at a state, where these requests were answered, and this one more was sent, if any. A job prints it in an office that was open at that
--- state, over some connection, whose failure may be the cause of a reported fault.
+-- The page of what is requested in a given state, where the given requests were answered, and possibly another one was sent. A job prints it in an office that was open
+-- in that state, over some connection, whose failure may be the cause of a reported fault.
 abbrev pub PrintsAt : {S : Type 0} → (Held S → State) → Folder → OfficeState → ServedOrder → Cut → Page → List Request → List Request → Type 0
 PrintsAt {S} state_of folder s (asked.Do job) cut page sent last =
     (old new : OfficeValue S)
@@ -195,7 +195,7 @@ PrintsAt state_of folder s (asked.Mend mending) cut page sent last = IsMendPage 
 PrintsAt state_of folder s (asked.Refused failure) cut page sent last = (page ≡ failed failure) × (sent ≡ []) × (last ≡ [])
 PrintsAt state_of folder s (asked.Misread fault) cut page sent last = (page ≡ words_page fault) × (sent ≡ []) × (last ≡ [])
 
--- the order that these bytes contain printed its page at a state, in these frames
+-- the order that the given bytes contain printed its page in a given state, in the given frames
 pub record OrderPrints {S : Type 0} (state_of : Held S → State) (settings : ServerSettingsEntry) (s : OfficeState) (got frames : List ℕ) (sent last : List Request) : Type 0 where
   pub files : List MessagePartEntry
   pub asked : ServedOrder
@@ -205,7 +205,7 @@ pub record OrderPrints {S : Type 0} (state_of : Held S → State) (settings : Se
   pub told : IsFramed cut page frames
   pub tells : PrintsAt state_of (folder_of files) s asked cut page sent last
 
--- the order that these bytes contain found the office closed, and these frames say so
+-- the order that the given bytes contain found the office closed, and the frames say so
 pub record IsRefusedClosed (settings : ServerSettingsEntry) (got frames : List ℕ) : Type 0 where
   pub files : List MessagePartEntry
   pub asked : ServedOrder

@@ -27,15 +27,15 @@ use Rattle.server.specs.Settings.{ServerSettingsEntry}
 use Rattle.server.specs.Servicing.{response_at}
 use Rattle.server.specs.Exchanges.{KeepsExchanges, ServesExchange, Exchange}
 
--- these connections were accepted
+-- the given connections were accepted
 abbrev pub AcceptsMore : {L : Type 0} → Option (List (Accepted L)) → Option (List (Accepted L)) → List (Accepted L) → Type 0
 AcceptsMore old new all_accepted = new ≡ option_map (λ before. before ++ all_accepted) old
 
--- these connections were handed back
+-- the given connections were handed back
 abbrev pub RemovesMore : {L : Type 0} → Option (List (Removed L)) → Option (List (Removed L)) → List (Removed L) → Type 0
 RemovesMore old new gone = new ≡ option_map (λ before. before ++ gone) old
 
--- From one time to a later one: more connections were accepted, each with the next number, and clients were counted; these exchanges took place; and each open
+-- From one time to a later one: more connections were accepted, each with the next number, and clients were counted; the given exchanges took place; and each open
 -- connection is still open, or was handed back.
 pub record GoesOn {L : Type 0} (settings : ServerSettingsEntry) (stream : Stream L) (exchanges : List Exchange) (before later : NetworkEntry L) (old new : ConnectionTable L) : Type 0 where
   pub all_accepted : List (Accepted L)
@@ -47,21 +47,21 @@ pub record GoesOn {L : Type 0} (settings : ServerSettingsEntry) (stream : Stream
       → (all : List (ServedConnection L)) × (map (λ connection. connection.came) all ≡ map (λ connection. connection.came) all_connections ++ all_accepted)
       × AreOpen settings stream all (earlier ++ exchanges) (left ++ gone) new.came new.clients.items
 
--- the same, with an office that serves the exchanges
+-- the same, along with the office that serves the exchanges
 pub record GoesOnServing {L S : Type 0} (settings : ServerSettingsEntry) (stream : Stream L) (state_of : Held S → State) (before later : NetworkEntry L) (old new : ConnectionTable L)
     (at behind : ServedOffice S) : Type 0 where
   pub exchanges : List Exchange
   pub each : FoldsTo (ServesExchange settings state_of) at exchanges behind
   pub goes_on : GoesOn settings stream exchanges before later old new
 
--- The same from any time that the clock showed last. Step by step, these responses were produced, and these connections were accepted and closed.
+-- The same, starting from any last reading of the clock. Step by step, the given responses were produced, and connections were accepted and closed.
 abbrev pub ServesFrom : {L S : Type 0} → ServerSettingsEntry → Stream L → (Held S → State) → NetworkEntry L → NetworkEntry L → ConnectionTable L → ConnectionTable L → ServedOffice S
     → ServedOffice S → Type 0
 ServesFrom settings stream state_of before later old new at behind =
     (from : Option ℕ) → (to : Option ℕ) × (it : GoesOnServing settings stream state_of before later old new at behind)
     × Trace (is_some settings.clients.gate) stream (map response_at it.exchanges) from to before later old.clients.items new.clients.items
 
--- the connection at a place has this number
+-- the connection at a place has the given number
 abbrev pub IsNumbered : {L : Type 0} → List (Client L) → ℕ → ℕ → Type 0
 IsNumbered {L} clients place number = (client : Client L) → (slice_index_or clients place client).number ≡ number
 
@@ -72,13 +72,13 @@ pub record IsBackInTable {L : Type 0} (place : ℕ) (client : Client L) (old new
   pub counted : new.counted ≡ old.counted
 
 -- The outcome of servicing a connection that was taken out of the table for this. Either it was closed, for the given reason; or it is back in its place, and then
--- connections were closed as long as too many bytes were in memory.
+-- connections were closed while too many bytes were in memory.
 abbrev pub IsSettled : {L : Type 0} → Option CloseReason → ℕ → Client L → NetworkEntry L → NetworkEntry L → ConnectionTable L → ConnectionTable L → Type 0
 IsSettled (Some why) place client before later old new = (later ≡ with_removed before (removed_of client why)) × (new ≡ old)
 IsSettled {L} None place client before later old new = (back : ConnectionTable L) × IsBackInTable place client old back × AreClosedByRule IsClosedForBytes before later back new
 
--- How all connections were accepted, serviced and closed, step by step. At first no connection is open, and the clock hasn't shown any time yet. The connections that
--- are open when serving ends are then closed, one by one. After an end without a failure there are none.
+-- How all connections were accepted, serviced and closed, step by step. At first no connection is open, and the clock hasn't been read yet. The connections that are
+-- still open when serving ends are then closed, one by one. If serving ends without a failure, there are none.
 pub record ClosesConnections {L : Type 0} (gated : Bool) (stream : Stream L) (turns : List ResponseAt) (before later : NetworkEntry L) (result : Result (Unit {0}) ServeError) : Type 0 where
   pub end : NetworkEntry L
   pub shown : Option ℕ
@@ -89,11 +89,11 @@ pub record ClosesConnections {L : Type 0} (gated : Bool) (stream : Stream L) (tu
   pub each : FoldsTo IsClosed rest closed []
   pub none : OnOk result (rest ≡ [])
 
--- calls of the network, of which at most the last one failed; and no wait succeeded
+-- calls to the network, of which at most the last one failed; and no wait succeeded
 abbrev pub IsCalled : {A L : Type 0} → Result A Broken → NetworkEntry L → NetworkEntry L → Type 0
 IsCalled result before later = (later.failed ≡ failed_after result before.failed) × (later.waits ≡ before.waits)
 
--- the same, and no call failed
+-- calls to the network, none of which failed; and no wait succeeded
 abbrev pub IsUnfailed : {L : Type 0} → NetworkEntry L → NetworkEntry L → Type 0
 IsUnfailed before later = (later.failed ≡ before.failed) × (later.waits ≡ before.waits)
 
@@ -103,7 +103,7 @@ IsRound (Ok true) before later = (later.failed ≡ before.failed) × (later.wait
 IsRound (Ok false) before later = (later.failed ≡ before.failed) × (later.waits ≡ one_more before.waits)
 IsRound (Err broken) before later = (later.failed ≡ one_more before.failed) × (later.waits ≡ before.waits)
 
--- Why serving ended early: a call of the network failed, and no other; or the table couldn't be allocated; or the number of rounds reached its limit. Otherwise no call
+-- Why serving ended early: a single call to the network failed; or the table couldn't be allocated; or the number of rounds reached its limit. Otherwise no call
 -- failed.
 abbrev pub IsEndedBy : {L : Type 0} → NetworkEntry L → NetworkEntry L → Result (Unit {0}) ServeError → Type 0
 IsEndedBy before later (Ok end) = later.failed ≡ before.failed
@@ -111,9 +111,9 @@ IsEndedBy before later (Err ended.Network) = later.failed ≡ one_more before.fa
 IsEndedBy before later (Err ended.Memory) = (later.failed ≡ before.failed) × (later.came ≡ before.came)
 IsEndedBy before later (Err ended.Rounds) = (later.failed ≡ before.failed) × (later.waits ≡ option_map (λ n. n + (2 ^ 64 - 1)) before.waits)
 
--- Connections of clients and orders were accepted: no more clients than requested, and exactly as many after an end without a failure. What happened to each connection
--- is as specified, and each was handed back, exactly once, with its stream at the end. Their requests were processed one at a time, each in the office that the
--- previous ones left. At first the cache was empty, and no wrong code had been sent. This is what is kept of the requests.
+-- Connections from clients and for orders were accepted: no more clients than requested, and exactly as many if serving ended without a failure. What happened to each
+-- connection is as specified, and each was handed back, exactly once, with its stream in its final state. Their requests were processed one at a time, each in the
+-- office that the previous ones left. At first the cache was empty, and no wrong code had been sent. What is kept of the requests is as specified, too.
 pub record ServesConnections {L S : Type 0} (settings : ServerSettingsEntry) (stream : Stream L) (state_of : Held S → State) (before later : NetworkEntry L) (most : Option ℕ)
     (old new : OfficeValue S) (result : Result (Unit {0}) ServeError) : Type 0 where
   pub all_connections : List (ServedConnection L)

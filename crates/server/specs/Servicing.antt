@@ -27,16 +27,16 @@ use Rattle.server.specs.Exchanges.{ServesExchange, Exchange}
 abbrev pub IsComplete : HttpSettingsEntry → Option (List ℕ) → List ℕ → Type 0
 IsComplete settings held got = IsWhole settings got ⊎ IsAtEnd held
 
--- the same, for a client whose head was parsed
+-- a client's request is complete, given the client's parsed head
 abbrev pub IsCompleteFor : HttpSettingsEntry → Option (List ℕ) → List ℕ → Parsed → Type 0
 IsCompleteFor settings held got parsed = IsComplete settings held got × IsParsed settings got parsed
 
--- the same, for a connection from either listener; an order is complete once its whole message has arrived
+-- the request on a connection from either listener is complete; an order is complete once its whole message has arrived
 abbrev pub HasComeAt : Listener → ServerSettingsEntry → Option (List ℕ) → List ℕ → Type 0
 HasComeAt Clients settings held got = IsComplete settings.clients held got
 HasComeAt Orders settings held got = IsWholeMessage got
 
--- nothing has been sent yet on a connection without a response, as far as it is known what the stream accepted
+-- nothing has been sent yet on a connection without a response, as far as it is known what its stream has accepted
 abbrev pub HasSentNothing : {L : Type 0} → Stream L → Client L → Type 0
 HasSentNothing stream client = client.answer ≡ None → HasTaken (stream.taken client.stream) []
 
@@ -44,12 +44,12 @@ HasSentNothing stream client = client.answer ≡ None → HasTaken (stream.taken
 abbrev pub answer_of : {L : Type 0} → Client L → Option (List ℕ)
 answer_of client = option_map (λ answer. answer.bytes.items) client.answer
 
--- It is the same connection, with the same time limit.
+-- Two values represent the same connection, with the same time limit.
 abbrev pub IsSameClient : {L : Type 0} → Client L → Client L → Type 0
 IsSameClient old new = (new.listener ≡ old.listener) × (new.number ≡ old.number) × (new.since ≡ old.since)
 
--- The request of a connection was processed while the connection was serviced at a given time: its own bytes were received until the request was complete, exactly
--- these bytes were served, and the connection has the resulting response.
+-- The request of a connection was processed while the connection was serviced at a given time. Its own bytes were received until the request was complete, the request
+-- in exactly those bytes was processed, and the connection has the resulting response.
 pub record HasResponded {L S : Type 0} (settings : ServerSettingsEntry) (stream : Stream L) (state_of : Held S → State) (now : ℕ) (old new : Client L) (before later : ServedOffice S) : Type 0 where
   pub exchange : Exchange
   pub listener : exchange.listener ≡ old.listener
@@ -68,12 +68,12 @@ HasExchanges settings stream state_of now [] old new before later = (later ≡ b
 HasExchanges settings stream state_of now (exchange ∷ []) old new before later = (turn : HasResponded settings stream state_of now old new before later) × (turn.exchange ≡ exchange)
 HasExchanges settings stream state_of now (exchange ∷ other ∷ more) old new before later = ⊥
 
--- its request was processed; or the office, the server's memory and the response are unchanged
+-- the connection's request was processed; or the office, the server's memory and the response are unchanged
 abbrev pub MayHaveResponded : {L S : Type 0} → ServerSettingsEntry → Stream L → (Held S → State) → ℕ → Client L → Client L → ServedOffice S → ServedOffice S → Type 0
 MayHaveResponded settings stream state_of now old new before later = HasResponded settings stream state_of now old new before later ⊎ ((later ≡ before) × (answer_of new ≡ answer_of old))
 
--- The outcome of servicing a connection. It waits, and its request wasn't processed; or its request has just been processed; or, in either case, the connection should
--- be closed.
+-- The outcome of servicing a connection. It waits, and its request hasn't been processed; or its request has just been processed; or, in either case, the connection
+-- should be closed.
 abbrev pub Services : {L S : Type 0} → ServerSettingsEntry → Stream L → (Held S → State) → ℕ → Serviced → Client L → Client L → ServedOffice S → ServedOffice S → Type 0
 Services settings stream state_of now Waits old new before later = (later ≡ before) × (answer_of new ≡ answer_of old)
 Services settings stream state_of now Served old new before later = HasResponded settings stream state_of now old new before later
@@ -85,16 +85,16 @@ FailsOnlyAsLost result = (result ≢ Err Done) × (result ≢ Err TimedOut) × (
 
 -- ---- the clock
 
--- an exchange, in the form in which responses are listed
+-- an exchange, as an entry in the list of responses
 abbrev pub response_at : Exchange → ResponseAt
 response_at exchange = record { number = exchange.number; moment = exchange.moment; answer = exchange.answer }
 
--- the time at which a request is processed: the one shown by the clock, or 0 if the clock wasn't read
+-- the time at which a request is processed: the clock's reading, or 0 if the clock wasn't read
 abbrev pub moment_of : Option ℕ → ℕ
 moment_of None = 0
 moment_of (Some now) = now
 
--- the clock was read for the time of a request if and only if wrong codes are counted
+-- the clock was read for a request if and only if wrong codes are counted
 abbrev pub IsAtGate : Bool → Option ℕ → List Exchange → Type 0
 IsAtGate gated gate [] = ⊤
 IsAtGate gated gate (exchange ∷ exchanges) = IsMomentOf gated gate exchange.moment
@@ -104,8 +104,8 @@ abbrev pub LooksAtGate : {L : Type 0} → Bool → Result ℕ Broken → Network
 LooksAtGate true result before later = later ≡ after_look result before
 LooksAtGate false result before later = (result ≡ Ok 0) × (later ≡ before)
 
--- An open connection that the network reported as ready was serviced. Either its request was processed at the time shown by the clock, or it wasn't processed; this is
--- the outcome.
+-- An open connection that the network reported as ready was serviced, with the given outcome. Either its request was processed, at the time read from the clock, or it
+-- wasn't processed.
 pub record WasServiced {L S : Type 0} (gated : Bool) (settings : ServerSettingsEntry) (stream : Stream L) (state_of : Held S → State) (result : Result (Option CloseReason) Broken)
     (before later : NetworkEntry L)
     (old new : Client L) (at behind : ServedOffice S) : Type 0 where

@@ -1,4 +1,4 @@
-//! Blind keying, as a property of a server.
+//! Blind keying, as a property of the server.
 
 ghost use Rattle.sqlite.specs.Held.{state};
 ghost use Rattle.connections.specs.Streams.{stream_of};
@@ -9,13 +9,12 @@ use laws::clerks_are_blind;
 use register::lists_make_states;
 use sqlite::Alter;
 
-/// The law of blind keying, for a server. The response to each request under a clerk's number is determined by what that clerk
-/// sees: the wards and their phases, the candidates, the batches, and the clerk's own keyings and receipts. Nothing that
-/// another clerk sends changes it. An order may, because orders come from the office; no request under a clerk's number is an
-/// order.
-/// So consider two services whose offices look alike to a clerk, and that receive no orders, neither handed over nor from the
-/// console. If both receive the same bytes under the clerk's number, in the same order, both send the clerk the same responses,
-/// whatever other clerks keyed.
+/// The law of blind keying, for a server. What a clerk sees determines the response to each request under that clerk's number:
+/// the wards and their phases, the candidates, the batches, and the clerk's own keyings and receipts. Nothing that another
+/// clerk sends changes it. An order may change it, because orders come from the office; no request under a clerk's number is an
+/// order. So consider two services whose offices look alike to a clerk, and that receive no orders, neither handed over nor
+/// from the console. If both receive the same bytes under the clerk's number, in the same order, both send the clerk the same
+/// responses, whatever other clerks keyed.
 ///
 /// The law doesn't cover faults, nor the responses saying that the client must wait (429) or that the file is gone (113). It
 /// says nothing about how long a response takes, nor about public reads: stage sheets and declarations.
@@ -25,17 +24,16 @@ pub fn clerks_are_answered_as_seen<S: Alter>()
     ensures alike { ClerksCannotTell (state S.Store) }
     ensures apart { ClerksAskNoOrder }
 {
-    // for their laws
+    // called for their laws
     clerks_are_blind();
     lists_make_states();
 }
 
 /// The law of blind keying, applied to what [`serve_connections`](crate::serve_connections) promises. In an office that was
-/// open and at the state after any earlier requests, the responses to each clerk are determined by what that clerk sees of that
-/// state.
+/// open and in the state after any earlier requests, what each clerk sees of that state determines the responses to that clerk.
 pub fn servers_answer_as_seen<D: Network, S: Alter>()
     ensures { ServersAnswerAsSeen (stream_of D.Stream.held D.Stream.taken D.Stream.failed) (state S.Store) }
 {
-    // for its law
+    // called for its law
     clerks_are_answered_as_seen::<S>();
 }

@@ -1,5 +1,5 @@
-//! The response to an order from the console. It is processed in the open office, just like an order that is handed over, and
-//! its output is returned in one response.
+//! The response to an order from the console. The order is processed in the open office, just like an order that is handed
+//! over, and its output is returned in one response.
 
 ghost use Rattle.std.specs.Prelude.{◌≡◌, [], IfOk, map, string_bytes};
 ghost use Rattle.sqlite.specs.Held.{state};
@@ -41,7 +41,7 @@ fn typed_words<'a>(alloc: Global, words: &'a [String]) -> Result<Vec<&'a str>, A
     Ok(texts)
 }
 
-/// Returns the files of an order, in the form of a message's files. The only error is a failed allocation.
+/// Returns the files of an order, in the form that a message's files have. The only error is a failed allocation.
 fn files_of<'a>(alloc: Global, files: &'a [ConsoleFile]) -> Result<Vec<MessagePart<'a>>, AllocError>
     ensures { IfOk result (λ parts. message_part_entries parts.items ≡ map sent_file (map console_file_entry files.now)) }
 {
@@ -65,7 +65,7 @@ fn read_order<'a>(alloc: Global, order: &'a ConsoleOrder) -> Result<ReadOrder<'a
     Ok(ReadOrder { words, files })
 }
 
-/// Returns the response with what an order printed on its two outputs and with its status. If either output isn't UTF-8,
+/// Returns the response with what an order printed to its two outputs, and with its status. If either output isn't UTF-8,
 /// returns the response saying that the output failed (107).
 fn printed_response(alloc: Global, status: u8, out: &[u8], err: &[u8]) -> Response
     ensures { IsTold (printed_response status out.now err.now) result }

@@ -10,7 +10,7 @@ use order_protocol::{MAX_FRAME, put_end_frame, put_error_frames, put_output};
 use std::alloc::{AllocError, Global};
 use streams::{Broken, Sink};
 
-/// The maximum size of the response to one order, in bytes. For a longer response, stop `serve` first.
+/// The maximum size of the response to one order, in bytes. To get a longer response, stop `serve` first.
 const MAX_ANSWER: usize = 32 << 20;
 
 /// A sink for an order's replies. It appends them, in frames, to what the order has already printed, and sends as much as the
@@ -24,8 +24,8 @@ pub struct FrameSink<L> {
     pub failed: u64,
 }
 
-/// Appends these bytes of the error output, in frames, and then the last frame, which has the status. If an allocation fails,
-/// either nothing was appended, or everything except the last frame.
+/// Appends the given bytes of the error output, in frames, and then the last frame, which has the status. If an allocation
+/// fails, either nothing is appended, or everything except the last frame.
 fn put_end(out: &mut Vec<u8>, status: u8, err: &[u8]) -> Result<(), AllocError>
     ensures says { AreWhole out.old.items → (rest : List ℕ) × SaysMore out.old.items out.new.items [] rest × OnOk result ((rest ≡ err.now) × IsOver out.new.items status []) }
     ensures begins { take (length out.old.items) out.new.items ≡ out.old.items }
@@ -35,7 +35,7 @@ fn put_end(out: &mut Vec<u8>, status: u8, err: &[u8]) -> Result<(), AllocError>
 }
 
 impl<L: Stream> FrameSink<L> {
-    /// Returns a sink to which nothing has been printed yet. Allocates nothing.
+    /// Returns a sink that nothing has been printed to yet. Allocates nothing.
     pub fn new(alloc: Global, stream: L) -> FrameSink<L>
         requires { HasTaken (L.taken stream) [] }
         ensures taken { said_through (stream_of L.held L.taken L.failed) result ≡ Some [] }
@@ -68,8 +68,8 @@ impl<L: Stream> FrameSink<L> {
     }
 }
 
-/// Appends bytes to a response, in one frame, and sends as much of the response as the stream accepts without blocking. If it
-/// returns `Broken`, nothing was appended: the stream or an allocation failed, or the response got too long.
+/// Appends bytes to a response, in one frame, and sends as much of the response as the stream accepts without blocking. Returns
+/// `Broken` if the stream or an allocation failed, or if the response got too long; then nothing was appended.
 fn send_frame<L: Stream>(
     stream: &mut L,
     answer: &mut PendingResponse,

@@ -1,24 +1,24 @@
-//! The server: it services the connections of clients, over HTTP, and of orders that are handed over, all concurrently, and
-//! processes their requests one at a time.
+//! The server: it services the connections of clients, over HTTP, and of orders that are handed over. All connections are
+//! serviced concurrently, and their requests are processed one at a time.
 //!
 //! [`serve_connections`] accepts connections from a [`Network`](connections::Network), at most 512 at once. [`service`]
 //! receives as much of a request as has arrived. Once the request is complete, it is processed in the one open office: a
-//! client's by its parsed head and the bytes received, an order's by its message. So no connection waits for the stream of
-//! another, and the office does one thing at a time.
+//! client's request from its parsed head and the bytes received, an order from its message. So no connection waits for the
+//! stream of another, and the office does one thing at a time.
 //!
-//! A keying travels from [`serve_connections`] to the office through `serve_rounds`, `service_ready`, `service_one`,
+//! A keying passes from [`serve_connections`] to the office through `serve_rounds`, `service_ready`, `service_one`,
 //! [`service`], `answer_client`, `answer_request` and [`wire::answer_keying`]. `end_round` does the rest of a round. An order
 //! from the console takes the same path; `answer_console` then carries it out like an order that is handed over, and its output
 //! is returned in one response.
 //!
 //! Whenever more of a client's request has arrived, [`wire::parse`] parses its head, using routes that are built once. From the
 //! result the server knows whether the request is complete, whose code it carries, whether it must wait, what it reads, and
-//! what to ask the office. The cache of responses to reads is keyed by what is requested, not by the bytes of the request, and
-//! a cached response is sent again until a keying or an order empties the cache. If the office has a gate, a request under a
-//! clerk's number requires that clerk's code, and a request for the console requires the office's. Once 6,000 wrong codes have
-//! been sent within a minute, a wrong code is answered with 429.
+//! what to ask the office. The cache of responses to reads is keyed by what is requested, not by the bytes of the request. A
+//! cached response is reused until a keying or an order empties the cache. If the office has a gate, a request under a clerk's
+//! number requires that clerk's code, and a request for the console requires the office's. Once 6,000 wrong codes have been
+//! sent within a minute, the response to a wrong code is 429.
 //!
-//! `specs/Exchanges.antt` defines what is recorded of the requests, and `specs/ServedOrders.antt` what an order asks for and
+//! `specs/Exchanges.antt` defines what is recorded about the requests, and `specs/ServedOrders.antt` what an order asks for and
 //! what it prints; `specs/ConsoleOrders.antt` does the same for an order from the console. `specs/Reads.antt` defines the cache
 //! and the rate limit, and `specs/Servicing.antt` what servicing a connection does. `specs/ServedConnections.antt` defines what
 //! happened to each connection, and `specs/Servers.antt` what is promised about all of them. `specs/Blind.antt` states that

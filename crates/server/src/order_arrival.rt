@@ -22,7 +22,8 @@ fn message_len(front: [u8; LENGTH]) -> Option<usize>
     }
 }
 
-/// Reads the length of a message; returns `None` if it hasn't arrived yet. A connection that ends before that is closed.
+/// Reads the length of a message; returns `None` if it hasn't arrived yet. A connection that ends before the length has arrived
+/// is closed.
 fn receive_length<L: Stream>(client: &mut Client<L>) -> Result<Option<[u8; LENGTH]>, CloseReason>
     requires { client.old.answer ≡ None }
     ensures receives { Receives (stream_of L.held L.taken L.failed) client.old.stream client.new.stream client.old.got.items client.new.got.items }
@@ -38,8 +39,8 @@ fn receive_length<L: Stream>(client: &mut Client<L>) -> Result<Option<[u8; LENGT
     }
 }
 
-/// Reads the message of an order, and returns whether it is complete. The connection is closed if it ends too early, or if the
-/// message is too long.
+/// Reads the message of an order, and returns whether the message is complete. Closes the connection if it ends too early or if
+/// the message is too long.
 pub fn receive_message<L: Stream>(client: &mut Client<L>) -> Result<bool, CloseReason>
     requires { client.old.answer ≡ None }
     ensures receives { Receives (stream_of L.held L.taken L.failed) client.old.stream client.new.stream client.old.got.items client.new.got.items }

@@ -71,8 +71,8 @@ impl<A> Clone for OrderContext<'_, A> {
 
 impl<A> Copy for OrderContext<'_, A> {}
 
-/// Prints the response of a closed office: that it is closed, if the order would be carried out otherwise; or else why the
-/// order isn't carried out.
+/// Prints the response of a closed office. It says that the office is closed if the order would otherwise be carried out; if not,
+/// it says why the order isn't carried out.
 fn print_closed<O: Sink, E: Sink>(asked: &ServedOrder<'_>, out: &mut O, err: &mut E) -> u8
     requires out { O.failed out.old < 2 ^ 64 - 1 }
     requires err { E.failed err.old < 2 ^ 64 - 1 }
@@ -185,8 +185,7 @@ fn do_open<A: ServedFile, S: Alter, O: Sink, E: Sink>(
     }
 }
 
-/// Carries out an order in the office, open or closed, and returns the status. A closed office reports that it is closed
-/// instead of doing anything.
+/// Carries out an order in the office, open or closed, and returns the status. A closed office only reports that it is closed.
 pub fn do_asked<A: ServedFile, S: Alter, O: Sink, E: Sink>(
     order: &OrderContext<'_, A>,
     office: &mut Office<S>,
@@ -227,7 +226,8 @@ fn respond_to_asked<L: Stream, A: ServedFile, S: Alter>(
     out.end(status, err.into_bytes().as_slice())
 }
 
-/// Returns what an order asks for; or, if it asks for a job and the office's file is gone or replaced, that it isn't carried out.
+/// Returns what an order asks for. If it asks for a job and the office's file is gone or replaced, returns the reason for
+/// refusing it instead.
 pub fn unless_gone<'w, A: ServedFile>(asked: ServedOrder<'w>, served_file: &A) -> ServedOrder<'w>
     ensures { (words : List Text) → AsksSo (A.whole served_file.now) words asked.entry → AsksSo (A.whole served_file.now) words result }
 {
@@ -243,7 +243,7 @@ pub fn unless_gone<'w, A: ServedFile>(asked: ServedOrder<'w>, served_file: &A) -
     }
 }
 
-/// Responds with this fault to an order that isn't carried out.
+/// Responds with the given fault to an order that isn't carried out.
 fn tell_refused<L: Stream, A: ServedFile, S: Alter>(
     alloc: Global,
     served_file: &A,
@@ -267,7 +267,7 @@ fn tell_refused<L: Stream, A: ServedFile, S: Alter>(
     respond_to_asked(&order, stream, office)
 }
 
-/// Responds to an order whose message was decoded: carries out the order, or prints why it isn't carried out.
+/// Responds to an order whose message has been decoded: carries out the order, or prints why it isn't carried out.
 fn respond_to_message<L: Stream, A: ServedFile, S: Alter>(
     alloc: Global,
     server_settings: ServerSettings<'_, A>,
@@ -312,12 +312,12 @@ fn respond_to_message<L: Stream, A: ServedFile, S: Alter>(
     respond_to_asked(&order, stream, office)
 }
 
-/// Responds to an order whose message was received: processes it in the office, sends its output in frames on its stream, and
-/// returns the stream.
+/// Responds to an order whose message has been received: processes it in the office, sends its output in frames on its stream,
+/// and returns the stream.
 ///
-/// The response is fault 102, as for a file held by another program, if the bytes aren't a message, or if the order comes from
-/// another version of the program or is for another file. For `init`, `migrate` and `serve`, the response says that the office
-/// is being served (111).
+/// The response is fault 102, as for a file locked by another program, if the bytes aren't a message, or if the order comes
+/// from another version of the program or is for another file. For `init`, `migrate` and `serve`, the response says that the
+/// office is being served (111).
 pub fn answer_order<L: Stream, A: ServedFile, S: Alter>(
     alloc: Global,
     server_settings: ServerSettings<'_, A>,

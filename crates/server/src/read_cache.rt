@@ -1,4 +1,4 @@
-//! The cache of reads: responses that are sent again as long as nothing changes.
+//! The cache of reads: responses that are reused as long as nothing changes.
 //!
 //! The key is the resource that is read, regardless of the bytes of the request. The cache is emptied before a keying or an
 //! order is processed.
@@ -23,7 +23,7 @@ pub struct CachedRead {
     pub answer: Vec<u8>,
 }
 
-/// The cached responses, oldest first. All of them were sent after the last possible change.
+/// The cached responses, oldest first. All of them were produced after the last possible change.
 #[derive(Drop)]
 pub struct ReadCache {
     pub answers: Vec<CachedRead>,
@@ -52,7 +52,7 @@ fn is_same_office_read(one: OfficeRead, other: OfficeRead) -> bool
     }
 }
 
-/// Returns whether two reads are of the same resource.
+/// Returns whether two reads request the same resource.
 fn is_same(one: Resource, other: Resource) -> bool
     ensures { result ≡ true → one ≡ other }
 {

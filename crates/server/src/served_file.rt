@@ -1,5 +1,5 @@
-//! The file of the office that is served, and what an order needs besides it: a new file for a copy or for another office, and
-//! empty databases for a trial run of a journal.
+//! The file of the office that is served, and what else an order needs: a new file for a copy or for another office, and empty
+//! databases for a trial run of a journal.
 
 ghost use Rattle.std.specs.Prelude.{◌≡◌, ◌-◌, ◌^◌, ◌<◌, Bool, IfSome, Option, true};
 ghost use Rattle.sqlite.specs.Held.{state};
@@ -25,12 +25,12 @@ pub struct Destination<'a> {
 /// The file of the office that is served. It copies the open office to a new file, prints its journal, and makes another office
 /// from that journal in a new file. The office stays open and is only read. The implementing program chooses the files.
 pub trait ServedFile {
-    /// Whether the file of the office is permanently known to be whole, or permanently known not to be. Nothing is known of a
-    /// real file on this machine.
+    /// Whether the file of the office is permanently known to be whole, or permanently known not to be. Nothing is known about
+    /// a real file on this machine.
     ghost whole: { Self → Option Bool };
 
     /// Returns whether the file of the office is still there, whole, and not replaced by another. If the answer is permanently
-    /// known, returns that.
+    /// known, returns that answer.
     fn is_whole(&self) -> bool
         ensures { IfSome (whole self.now) (λ known. result ≡ known) };
 

@@ -24,7 +24,7 @@ pub enum ServedOrder<'a> {
     Journal,
     /// A new office from that journal, in a new file, with some orders left out and others replaced.
     Mend(MendOrder<'a>),
-    /// Nothing: the order isn't carried out, for this reason.
+    /// Nothing: the order isn't carried out, for the given reason.
     Refused(Failure),
     /// Nothing: its words aren't an order.
     Misread(WordsFault),

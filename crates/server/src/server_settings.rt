@@ -12,8 +12,8 @@ pub struct FileNumbers {
     pub inode: u64,
 }
 
-/// The HTTP settings, which are the origin of a proxy, the gate, and what is shown in public, if any; the served file, for
-/// which orders are handed over; and what an order needs besides the office.
+/// The HTTP settings (the origin of a proxy, the gate, and what is shown in public, if any), the served file, to which the
+/// orders that are handed over apply, and what an order needs besides the office.
 pub struct ServerSettings<'a, A> {
     pub http: HttpSettings<'a>,
     pub file: FileNumbers,

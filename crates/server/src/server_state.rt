@@ -33,7 +33,7 @@ impl ServerState {
         })
     }
 
-    /// Returns whether a client must wait at this time: its code is wrong, and the rate limit is reached.
+    /// Returns whether a client must wait at the given time: its code is wrong, and the rate limit is reached.
     pub fn must_wait(&self, authentication: Option<Authentication>, now: u64) -> bool
         ensures { result ≡ must_wait (option_map authentication_entry authentication) now (limit_entry self.now.limit) }
     {

@@ -50,12 +50,12 @@ pub enum Serviced {
     Waits,
     /// Its request has just been processed, and more of its response is still to be sent.
     Served,
-    /// It should be closed, for this reason.
+    /// It should be closed, for the given reason.
     Leaves(CloseReason),
 }
 
-/// Receives the body of a request whose head was parsed, until there are `wanted` bytes in all. Returns whether the request is
-/// complete.
+/// Receives the body of a request whose head has been parsed, until there are `wanted` bytes in total. Returns whether the
+/// request is complete.
 fn receive_body<L: Stream>(
     client: &mut Client<L>,
     parsed: Parsed,
@@ -244,7 +244,7 @@ fn wait_response(alloc: Global) -> PendingResponse
     }
 }
 
-/// Returns the response while the file of the office is gone or replaced; none of it has been sent yet.
+/// Returns the response when the file of the office is gone or replaced; none of it has been sent yet.
 fn gone_response(alloc: Global) -> PendingResponse
     ensures told { (exchange : Exchange) → exchange.answer ≡ result.bytes.items → IsGoneResponse exchange }
     ensures untold { result.sent ≡ 0 }
@@ -284,7 +284,7 @@ fn is_without_file<A: ServedFile>(served_file: &A, parsed: Parsed, is_closed: bo
     }
 }
 
-/// A client's request to be processed: its parsed head, its bytes, and the time of the clock.
+/// A client's request, ready to be processed: its parsed head, its bytes, and the clock's current time.
 #[derive(Clone, Copy)]
 struct ReceivedRequest<'a> {
     parsed: Parsed,
@@ -293,9 +293,9 @@ struct ReceivedRequest<'a> {
 }
 
 /// Returns the response to a client; none of it has been sent yet. If the client's code is wrong and the rate limit is reached,
-/// the response says that the client must wait. If the file of the office is gone or replaced, the response says so, except to
-/// a read of an open office. In both cases nothing else is done. Otherwise the request is processed and, if its code is wrong,
-/// the code is counted.
+/// the response says that the client must wait. If the file of the office is gone or replaced, the response says so, unless the
+/// request is a read of an open office. In both cases nothing else is done. Otherwise the request is processed and, if its code
+/// is wrong, the code is counted.
 fn answer_client<A: ServedFile, S: Alter>(
     server_settings: ServerSettings<'_, A>,
     due: ReceivedRequest<'_>,
@@ -324,7 +324,7 @@ fn answer_client<A: ServedFile, S: Alter>(
     answer
 }
 
-/// Reads and discards the rest of a client's request, once its whole response was sent.
+/// Reads and discards the rest of a client's request, once the whole response has been sent.
 fn drop_rest<L: Stream>(client: &mut Client<L>) -> Serviced
     requires { IsSentWhole client.old }
     ensures is { (start : L) → IsOf (stream_of L.held L.taken L.failed) start client.old → IsOf (stream_of L.held L.taken L.failed) start client.new }
@@ -333,7 +333,7 @@ fn drop_rest<L: Stream>(client: &mut Client<L>) -> Serviced
 {
     match client.drop_unread() {
         Ok(false) => Serviced::Waits,
-        // The whole response was sent, even if its stream fails now.
+        // The whole response has been sent, even if the stream fails now.
         Ok(true) | Err(Broken) => Serviced::Leaves(CloseReason::Done),
     }
 }
@@ -433,12 +433,11 @@ fn service_order<L: Stream, A: ServedFile, S: Alter>(
     }
 }
 
-/// Services a connection at a given time, in milliseconds of a clock, as far as its stream allows without blocking: receives
-/// more of its request, processes the request once it is complete, and sends more of its response. Returns the connection and
-/// the outcome.
+/// Services a connection at a given time, in milliseconds of a clock, as far as possible without blocking: receives more of its
+/// request, processes the request once it is complete, and sends more of its response. Returns the connection and the outcome.
 ///
-/// The bytes received are the connection's own, from the first one on, and the response answers exactly these. No other
-/// connection is touched.
+/// The bytes received are the connection's own, from the first one on, and the response answers exactly those bytes. No other
+/// connection is affected.
 pub fn service<L: Stream, A: ServedFile, S: Alter>(
     server_settings: ServerSettings<'_, A>,
     now: u64,

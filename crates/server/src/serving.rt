@@ -34,7 +34,7 @@ use std::alloc::{AllocError, Global};
 use std::time::Duration;
 use streams::Broken;
 
-/// The maximum duration of the next wait, in milliseconds, while a connection may be pending that no event reports.
+/// The maximum duration of the next wait, in milliseconds, while there may be a pending connection that no event reports.
 const RECHECK_MILLIS: u64 = 1_000;
 
 /// The maximum number of connections to accept before servicing the open ones.
@@ -43,7 +43,7 @@ const ACCEPTS_PER_ROUND: usize = 64;
 /// The maximum number of rounds.
 const ROUNDS: u64 = u64::MAX;
 
-/// Returns the time of the clock if there is a gate, and therefore a limit on wrong codes; otherwise 0.
+/// Returns the clock's current time if there is a gate, and therefore a limit on wrong codes; otherwise 0.
 fn time_if_gated<D: Network, A>(
     network: &mut D,
     server_settings: ServerSettings<'_, A>,
@@ -57,8 +57,8 @@ fn time_if_gated<D: Network, A>(
 }
 
 /// Services an open connection at a given time. Returns the connection and, if it should be closed, the reason. Its time limit
-/// restarts once its request has been processed, however long that took. If there is a gate and the clock fails, the connection
-/// isn't serviced.
+/// restarts after its request has been processed, however long that took. If there is a gate and the clock fails, the
+/// connection isn't serviced.
 fn service_one<D: Network, A: ServedFile, S: Alter>(
     network: &mut D,
     server_settings: ServerSettings<'_, A>,
@@ -152,9 +152,9 @@ fn service_ready<D: Network, A: ServedFile, S: Alter>(
     Ok(())
 }
 
-/// Accepts the next pending connection if there is room, or if room can be made. It may be an order; or a client, unless the
-/// maximum number of clients has been accepted. If no connection was accepted, returns the maximum duration of the next wait,
-/// in milliseconds.
+/// Accepts the next pending connection if there is room, or if room can be made. The connection may be for an order; or from a
+/// client, unless the maximum number of clients has been accepted. If no connection was accepted, returns the maximum duration
+/// of the next wait, in milliseconds.
 fn accept_one<D: Network>(
     alloc: Global,
     network: &mut D,
@@ -220,7 +220,7 @@ fn accept_pending<D: Network>(
     0
 }
 
-/// Returns the maximum duration of the next wait: `look` milliseconds, or less if a time limit expires before that.
+/// Returns the maximum duration of the next wait: `look` milliseconds, or less if a time limit expires sooner.
 fn pause<L>(table: &ConnectionTable<L>, look: u64, now: u64) -> Duration
     ensures { as_nanos result ≤ look * 1_000_000 }
 {
@@ -252,7 +252,7 @@ impl<A> Clone for RoundSettings<'_, A> {
 impl<A> Copy for RoundSettings<'_, A> {}
 
 /// Ends a round: closes the connections that have timed out, accepts pending ones, and waits for events. Returns whether all
-/// clients were accepted and all connections are closed.
+/// clients have been accepted and all connections are closed.
 fn end_round<D: Network>(
     alloc: Global,
     network: &mut D,
@@ -278,7 +278,7 @@ fn end_round<D: Network>(
     Ok(false)
 }
 
-/// Serves in rounds, until all clients were accepted and all connections are closed. Each round begins by servicing the
+/// Serves in rounds, until all clients have been accepted and all connections are closed. Each round begins by servicing the
 /// connections that are ready.
 fn serve_rounds<D: Network, A: ServedFile, S: Alter>(
     network: &mut D,
@@ -311,34 +311,36 @@ fn serve_rounds<D: Network, A: ServedFile, S: Alter>(
 }
 
 /// Serves the connections of a network under the given settings: the origin of a proxy, the gate, and what is shown in public,
-/// if any. It serves until the given number of clients were accepted and all connections are closed, or indefinitely if no
+/// if any. Serves until the given number of clients have been accepted and all connections are closed, or indefinitely if no
 /// number is given. Orders are accepted too, before clients, and don't count.
 ///
 /// Requests are received concurrently, and responses are sent concurrently. A request is processed once all of it has arrived,
-/// whether it is a client's or an order's; all are processed in the same office. At most 512 connections are open at once, with
-/// 64 MiB of requests and responses. If there are more, the next one stays pending, and the client that has been waiting
-/// longest is closed to make room, provided that it has waited for a second. A connection has half a minute to send its
+/// whether it is from a client or an order; all requests are processed in the same office. At most 512 connections are open at
+/// once, with 64 MiB of requests and responses. If there are more, the next one stays pending, and the client that has been
+/// waiting longest is closed to make room, provided that it has waited for a second. A connection has half a minute to send its
 /// request, and another half minute to accept its response. A connection that is closed early gets no response. One that can't
 /// be accepted now is accepted later.
 ///
-/// At the gate, a request with its clerk's code is accepted, however many wrong codes were sent. Once 6,000 wrong codes have
-/// been sent within a minute, a request with a wrong code must wait for the rest of that minute. Times are those of the
+/// At the gate, a request with its clerk's code is accepted, however many wrong codes have been sent. Once 6,000 wrong codes
+/// have been sent within a minute, a request with a wrong code must wait for the rest of that minute. Times are those of the
 /// network's clock.
 ///
-/// The bytes received from a connection are its own, from the first one on, and what it is sent is the response to exactly
-/// these. An open office is changed only by clerks' keyings, at most one per client, and by the requests of orders. Whenever
-/// the program stops, what is left is the state after the requests that were answered, and at most one more. Each request is
-/// answered as the state machine of the office says for the state at which it is processed. A closed office stays as it is.
+/// The bytes received from a connection are its own, from the first one on, and what is sent to it is the response to exactly
+/// those bytes. An open office is changed only by clerks' keyings, at most one per client, and by the requests of orders.
+/// Whenever the program stops, what is left is the state after the requests that were answered and at most one other. Each
+/// request is answered as the office's state machine says for the state in which it is processed. A closed office stays as it
+/// is.
 ///
-/// A connection is closed as timed out only once its half minute is over by the network's clock, counted from when it was
-/// accepted or its request was processed. It is closed to make room only while the table is full, or if the system has no room
-/// for another. Connections still open when serving ends are closed last; after an end without a failure, none is open.
+/// A connection is closed as timed out only once half a minute has passed, by the network's clock, since it was accepted or its
+/// request was processed. It is closed to make room only while the table is full, or if the system has no room for another.
+/// Connections that are still open when serving ends are closed last; if serving ends without a failure, there are none.
 ///
-/// What is sent under a clerk's number is determined by what that clerk sees of the office, apart from faults and from the
-/// responses saying that the client must wait or that the file is gone.
+/// What a clerk sees of the office determines what is sent under that clerk's number, apart from faults and from the responses
+/// saying that the client must wait or that the file is gone.
 ///
 /// The error says why serving ended early: the network or its clock failed, the table couldn't be allocated, or the number of
-/// rounds reached its maximum. What was answered before remains valid. The connections that are open at that time are closed.
+/// rounds reached its maximum. What was answered before that remains valid. The connections that are still open then are
+/// closed.
 pub fn serve_connections<D: Network, A: ServedFile, S: Alter>(
     alloc: Global,
     network: &mut D,
@@ -351,7 +353,7 @@ pub fn serve_connections<D: Network, A: ServedFile, S: Alter>(
     ensures ended { IsEndedBy (D.known network.old) (D.known network.new) result }
     ensures closed { office.old.closed ≡ true → office.new ≡ office.old }
     ensures clean { HasCleanDisk (state S.Store office.new.held) → HasCleanDisk (state S.Store office.old.held) }
-    // What each clerk is sent depends on what that clerk sees.
+    // What is sent to each clerk depends only on what that clerk sees.
     ensures blind { ServersAnswerAsSeen (stream_of D.Stream.held D.Stream.taken D.Stream.failed) (state S.Store) }
 {
     servers_answer_as_seen::<D, S>();

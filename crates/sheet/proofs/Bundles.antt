@@ -7,7 +7,7 @@ use Rattle.sheet.specs.Ballots.{bundle_line}
 use Rattle.sheet.specs.Writing.{Writes}
 use Rattle.sheet.proofs.Writing.{Writes-then, Writes-failed, Writes-front}
 
--- the lines of some bundles have been written, and the rest remain
+-- the lines of the first bundles have been written, and those of the rest remain
 pub record AreWritten {W X E : Type 0} (taken : W → Option (List ℕ)) (failed : W → ℕ) (old mid : W) (bundles rest : List Bundle) (written : Result X E) : Type 0 where
   pub done : List Bundle
   pub parted : bundles ≡ done ++ rest
@@ -17,7 +17,7 @@ one_more : (done : List Bundle) (b : Bundle) → flat_map bundle_line (done ++ b
 one_more done b = flat_map-append bundle_line done (b ∷ []) ∙ ap (λ text. flat_map bundle_line done ++ text) (append-nil (bundle_line b))
 
 module _ {W : Type 0} {taken : W → Option (List ℕ)} {failed : W → ℕ} {X E : Type 0} where
-  -- one more line was written
+  -- another line has been written
   pub Writes-bundle : {old mid new : W} {x y : X} (bundles rest others : List Bundle) (b : Bundle) → rest ≡ b ∷ others →
       AreWritten {E = E} taken failed old mid bundles rest (Ok x) → Writes {E = E} taken failed mid new (bundle_line b) (Ok y) → AreWritten {E = E} taken failed old new bundles others (Ok y)
   Writes-bundle {old = old} {new = new} {y = y} bundles rest others b steps front next = record {
@@ -26,7 +26,7 @@ module _ {W : Type 0} {taken : W → Option (List ℕ)} {failed : W → ℕ} {X 
     text = subst (λ text. Writes {E = E} taken failed old new text (Ok y)) (sym (one_more front.done b)) (Writes-then (Ok y) front.text next);
   }
 
-  -- writing one more line failed, and the failure is passed on: the rest aren't written
+  -- writing another line failed, and the failure is passed on: the remaining lines aren't written
   pub Writes-bundle_cut : {old mid new : W} {x : X} {e : E} (bundles rest others : List Bundle) (b : Bundle) (r : Result X E) → rest ≡ b ∷ others →
       AreWritten {E = E} taken failed old mid bundles rest (Ok x) → Writes {X = X} taken failed mid new (bundle_line b) (Err e) → IsErr r → Writes taken failed old new (flat_map bundle_line bundles) r
   Writes-bundle_cut {old = old} {new = new} {e = e} bundles rest others b r steps front next failure =

@@ -16,7 +16,7 @@ each_after-append text earlier (x ∷ xs) ys =
     ap (λ told. text earlier x ++ told) (after ∙ ap (λ stages. each_after text (earlier ++ x ∷ []) xs ++ each_after text stages ys) (append_assoc earlier (x ∷ []) xs))
     ∙ sym (append_assoc (text earlier x) (each_after text (earlier ++ x ∷ []) xs) (each_after text (earlier ++ x ∷ xs) ys))
 
--- the same, starting at a position within the front
+-- the same equation, starting at a position within the front
 from_place-append : (text : List Stage → Stage → List ℕ) (place : ℕ) (xs ys : List Stage) → place ≤ length xs →
     from_place text place (xs ++ ys) ≡ from_place text place xs ++ each_after text xs ys
 from_place-append text place xs ys within =
@@ -24,7 +24,7 @@ from_place-append text place xs ys within =
     ∙ each_after-append text (take place xs) (drop place xs) ys
     ∙ ap (λ stages. from_place text place xs ++ each_after text stages ys) (take-append-drop place xs)
 
--- the texts with one more stage
+-- the texts with another stage
 from_place-more : (text : List Stage → Stage → List ℕ) (place k : ℕ) (stages : List Stage) (d : Stage) → place ≤ k → k < length stages →
     from_place text place (take (k + 1) stages) ≡ from_place text place (take k stages) ++ text (take k stages) (get_or stages k d)
 from_place-more text place k stages d from within =
@@ -32,7 +32,7 @@ from_place-more text place k stages d from within =
     ∙ from_place-append text place (take k stages) (get_or stages k d ∷ []) (omega (arith, length-take k stages))
     ∙ ap (λ told. from_place text place (take k stages) ++ told) (append-nil (text (take k stages) (get_or stages k d)))
 
--- the texts of some stages and those of the later ones make up all texts
+-- the texts of the earlier stages and those of the later ones make up all texts
 from_place-parted : (text : List Stage → Stage → List ℕ) (place k : ℕ) (stages : List Stage) → place ≤ k → k ≤ length stages →
     from_place text place (take k stages) ++ each_after text (take k stages) (drop k stages) ≡ from_place text place stages
 from_place-parted text place k stages from within =
@@ -48,7 +48,7 @@ module _ {W : Type 0} {taken : W → Option (List ℕ)} {failed : W → ℕ} {X 
   pub Writes-no_stage : (s : W) (x : X) → Writes {E = E} taken failed s s (from_place text place (take place stages)) (Ok x)
   Writes-no_stage s x = subst (λ told. Writes {E = E} taken failed s s told (Ok x)) (from_place-none text place stages) (Writes-none s x)
 
-  -- the stages so far and the next one were written
+  -- the stages so far and the next one have been written
   pub Writes-next : {Y F : Type 0} {old mid new : W} {x : X} (k : ℕ) (stage : Stage) (r : Result Y F) → place ≤ k → k < length stages → stage ≡ get_or stages k stage →
       Writes {E = E} taken failed old mid (from_place text place (take k stages)) (Ok x) → Writes taken failed mid new (text (take k stages) stage) r →
       Writes taken failed old new (from_place text place (take (k + 1) stages)) r

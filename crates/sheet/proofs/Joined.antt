@@ -16,13 +16,13 @@ pub line_joined : (parts : List (List ℕ)) → line parts ≡ joined parts ++ c
 unfolding line joined
 line_joined parts = refl
 
--- the texts with one more element
+-- the texts with another element
 pub flat_map-take_more : {X : Type 0} (f : X → List ℕ) (xs : List X) (i : ℕ) (d : X) → i < length xs →
     flat_map f (take (i + 1) xs) ≡ flat_map f (take i xs) ++ f (get_or xs i d)
 flat_map-take_more f xs i d within =
     ap (flat_map f) (take_more xs i d within) ∙ flat_map-append f (take i xs) (get_or xs i d ∷ []) ∙ ap (λ text. flat_map f (take i xs) ++ text) (append-nil (f (get_or xs i d)))
 
--- the texts of some elements and those of the rest make up all texts
+-- the texts of the first elements and those of the rest make up all texts
 pub flat_map-parted : {X : Type 0} (f : X → List ℕ) (xs : List X) (i : ℕ) → flat_map f (take i xs) ++ flat_map f (drop i xs) ≡ flat_map f xs
 flat_map-parted f xs i = sym (flat_map-append f (take i xs) (drop i xs)) ∙ ap (flat_map f) (take-append-drop i xs)
 

@@ -17,7 +17,7 @@ pub all_places : (n k : ℕ) → n ≤ k → take k (range_with_len 0 n) ≡ ran
 all_places n k above = take_all k (range_with_len 0 n) (omega (arith, length-range_with_len 0 n))
 
 module _ {W : Type 0} {taken : W → Option (List ℕ)} {failed : W → ℕ} {X E : Type 0} (text : ℕ → List ℕ) (n : ℕ) where
-  -- the texts for the positions so far and for the next one were written
+  -- the texts for the positions so far and for the next one have been written
   pub Writes-place : {Y F : Type 0} {old mid new : W} {x : X} (k : ℕ) (r : Result Y F) → k < n →
       Writes {E = E} taken failed old mid (flat_map text (take k (range_with_len 0 n))) (Ok x) → Writes taken failed mid new (text k) r →
       Writes taken failed old new (flat_map text (take (k + 1) (range_with_len 0 n))) r

@@ -6,7 +6,7 @@ use Rattle.std.proofs.lemmas.Str.{IsUtf8-nil}
 use Rattle.sheet.specs.Lines.{escaped, plain_byte, plain}
 use Rattle.sheet.proofs.Bytewise.{ascii_then, IsUtf8-by_bytes}
 
--- if both texts are UTF-8, so is the chosen one
+-- if both texts are UTF-8, so is the chosen text
 either : (b : Bool) (xs ys : List ℕ) → IsUtf8 xs → IsUtf8 ys → IsUtf8 (cond b xs ys)
 either true xs ys left right = left
 either false xs ys left right = right

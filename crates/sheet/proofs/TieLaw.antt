@@ -1,4 +1,4 @@
--- The tied candidates that a page names with a lot are those who are tied according to the count.
+-- The candidates that a page names as tied for a lot are those who are tied according to the count.
 use Rattle.std.proofs.Common.{◌≡◌, ◌⊎◌, inl, inr, ℕ, ◌<◌, ◌==◌, ◌||◌, ◌&&◌, Bool, true, false, not, cond, nat_eq, nat_le, nat_lt, List, [], ◌∷◌, reverse, Option}
 use Rattle.std.proofs.Common.{refl, sym, ap, ap₂, subst, ◌∙◌, arith, true≢false}
 use Rattle.std.specs.List.{filter, list_all, list_any}
@@ -287,7 +287,7 @@ all_reverse p (s ∷ stages) =
     swap false true = refl
     swap false false = refl
 
--- the candidates that a page names with a lot are tied in the count
+-- the candidates that a page names as tied for a lot are tied in the count
 pub tied_on_a_page : (contest : Contest) (handed : History → Stage → Option ℕ) (stages : History) (k c : ℕ) (kind : TiedFor) (tied : List ℕ) → IsContest contest → AreRankings contest.papers
     → IsRightBy contest handed stages → due_after contest stages ≡ Lot k kind tied → In c tied → filter (is_tied (reverse stages) c) contest.candidates ≡ tied
 tied_on_a_page contest handed stages k c kind tied fair rankings right due among_them =

@@ -17,19 +17,19 @@ abbrev pub is_none_yet : List ℕ → Bool
 is_none_yet [] = true
 is_none_yet (c ∷ cs) = false
 
--- the numbers in such a line, without its end
+-- the numbers in a line of withdrawn candidates, without its newline
 abbrev pub joined : List ℕ → List ℕ
 joined [] = []
 joined (c ∷ cs) = withdrawn_number true c ++ flat_map (withdrawn_number false) cs
 
--- one more number
+-- another number
 pub joined-more : (xs : List ℕ) (c : ℕ) → joined (xs ++ c ∷ []) ≡ joined xs ++ withdrawn_number (is_none_yet xs) c
 joined-more [] c = append-nil (withdrawn_number true c)
 joined-more (x ∷ xs) c =
     ap (λ l. withdrawn_number true x ++ l) (flat_map-append (withdrawn_number false) xs (c ∷ []) ∙ ap (λ l. flat_map (withdrawn_number false) xs ++ l) (append-nil (withdrawn_number false c)))
     ∙ sym (append_assoc (withdrawn_number true x) (flat_map (withdrawn_number false) xs) (withdrawn_number false c))
 
--- what follows some numbers in a line that contains these and others
+-- what follows the given numbers in a line that contains them and others
 abbrev behind : List ℕ → List ℕ → List ℕ
 behind [] ys = withdrawn_line ys
 behind (x ∷ xs) ys = flat_map (withdrawn_number false) ys ++ codes "\n"
@@ -99,14 +99,14 @@ module _ (ward : SheetEntry) where
   so_far-parted n = ap (filter is_missing) (sym (take-append-drop n (numbers_of ward))) ∙ filter-append is_missing (take n (numbers_of ward)) (drop n (numbers_of ward))
 
   module _ {W : Type 0} {taken : W → Option (List ℕ)} {failed : W → ℕ} {X E : Type 0} where
-    -- one more number was written
+    -- another number has been written
     pub Writes-withdrawn : {Y F : Type 0} {old mid new : W} {x : X} (n : ℕ) (r : Result Y F) → n < highest_number ward.candidates → is_missing (n + 1) ≡ true →
         Writes {E = E} taken failed old mid (joined (so_far n)) (Ok x) → Writes taken failed mid new (withdrawn_number (is_none_yet (so_far n)) (n + 1)) r →
         Writes taken failed old new (joined (so_far (n + 1))) r
     Writes-withdrawn {old = old} {mid = mid} {new = new} n r within missing front next =
         subst (λ text. Writes taken failed old new text r) (sym (ap joined (so_far-more n true within missing) ∙ joined-more (so_far n) (n + 1))) (Writes-then r front next)
 
-    -- writing one more number failed, and the failure is passed on
+    -- writing another number failed, and the failure is passed on
     pub Writes-withdrawn_cut : {old mid new : W} {x : X} {e : E} (n : ℕ) (r : Result X E) → n < highest_number ward.candidates → is_missing (n + 1) ≡ true →
         Writes {E = E} taken failed old mid (joined (so_far n)) (Ok x) → Writes {X = X} taken failed mid new (withdrawn_number (is_none_yet (so_far n)) (n + 1)) (Err e) → IsErr r →
         Writes taken failed old new (withdrawn_line (withdrawn ward)) r

@@ -12,7 +12,7 @@ use Rattle.sheet.specs.Writing.{Puts, Writes}
 use Rattle.sheet.proofs.Joined.{flat_map-take_more, flat_map-parted}
 
 module _ {W : Type 0} {taken : W → Option (List ℕ)} {failed : W → ℕ} {X E : Type 0} where
-  -- bytes that were put, if they make up a text
+  -- bytes that have been written, if they make up a text
   pub Writes-put : (old new : W) (bytes text : List ℕ) (r : Result X E) → bytes ≡ text → IsUtf8 text →
       OnOk r (Appends (taken old) (taken new) bytes) → OnOk r (failed new ≡ failed old) →
       OnErr r (AppendsBeginning (taken old) (taken new) bytes) → OnErr r (failed new ≡ failed old + 1) → Writes taken failed old new text r
@@ -23,7 +23,7 @@ module _ {W : Type 0} {taken : W → Option (List ℕ)} {failed : W → ℕ} {X 
   pub Writes-none : (s : W) (x : X) → Writes {E = E} taken failed s s [] (Ok x)
   Writes-none s x = record { written = Appends-nil (taken s); utf8 = IsUtf8-nil; ok = refl; cut_off = tt; err = tt }
 
-  -- a text and another one after it
+  -- a text, followed by another one
   pub Writes-then : {Y F : Type 0} {old mid new : W} {xs ys : List ℕ} {x : X} (r : Result Y F) →
       Writes {E = E} taken failed old mid xs (Ok x) → Writes taken failed mid new ys r → Writes taken failed old new (xs ++ ys) r
   Writes-then (Ok y) one two = record {
@@ -51,7 +51,7 @@ module _ {W : Type 0} {taken : W → Option (List ℕ)} {failed : W → ℕ} {X 
   Writes-front ys (Ok x) is cut = absurd (cc is)
   Writes-front ys (Err e) is cut = record { written = tt; utf8 = tt; ok = tt; cut_off = AppendsBeginning-front _ _ _ ys cut.cut_off; err = cut.err }
 
-  -- the texts of some elements and the text of the next one
+  -- the texts of the first elements and the text of the next one
   pub Writes-item : {A Y F : Type 0} {old mid new : W} {x : X} (f : A → List ℕ) (items : List A) (i : ℕ) (item : A) (r : Result Y F) → i < length items →
       item ≡ get_or items i item → Writes {E = E} taken failed old mid (flat_map f (take i items)) (Ok x) → Writes taken failed mid new (f item) r →
       Writes taken failed old new (flat_map f (take (i + 1) items)) r
@@ -67,24 +67,24 @@ module _ {W : Type 0} {taken : W → Option (List ℕ)} {failed : W → ℕ} {X 
       let cut = Writes-failed r failure (Writes-item {F = E} f items i item (Err e) within is front next) in
       subst (λ text. Writes taken failed old new text r) (flat_map-parted f items (i + 1)) (Writes-front (flat_map f (drop (i + 1) items)) r failure cut)
 
-  -- ---- bytes that are only a part of a text
+  -- ---- bytes that are only part of a text
 
-  -- no byte has been put yet
+  -- no byte has been written yet
   pub Puts-none : (s : W) (x : X) → Puts {E = E} taken failed s s [] (Ok x)
   Puts-none s x = record { all = Appends-nil (taken s); ok = refl; cut_off = tt; err = tt }
 
-  -- bytes and other bytes after them
+  -- bytes, followed by other bytes
   pub Puts-then : {Y F : Type 0} {old mid new : W} {xs ys : List ℕ} {x : X} (r : Result Y F) →
       Puts {E = E} taken failed old mid xs (Ok x) → Puts taken failed mid new ys r → Puts taken failed old new (xs ++ ys) r
   Puts-then (Ok y) one two = record { all = Appends-trans _ _ _ _ _ one.all two.all; ok = two.ok ∙ one.ok; cut_off = tt; err = tt }
   Puts-then (Err f) one two = record { all = tt; ok = tt; cut_off = AppendsBeginning-behind _ _ _ _ _ one.all two.cut_off; err = two.err ∙ ap (λ n. n + 1) one.ok }
 
-  -- a failure is passed on, and nothing more is put
+  -- a failure is passed on, and nothing more is written
   pub Puts-failed : {Y F : Type 0} {old new : W} {xs : List ℕ} {e : E} (ys : List ℕ) (r : Result Y F) → IsErr r → Puts {X = X} taken failed old new xs (Err e) → Puts taken failed old new (xs ++ ys) r
   Puts-failed ys (Ok y) is cut = absurd (cc is)
   Puts-failed ys (Err f) is cut = record { all = tt; ok = tt; cut_off = AppendsBeginning-front _ _ _ ys cut.cut_off; err = cut.err }
 
-  -- the bytes of some elements and those of the next one
+  -- the bytes of the first elements and those of the next one
   pub Puts-item : {A Y F : Type 0} {old mid new : W} {x : X} (f : A → List ℕ) (items : List A) (i : ℕ) (item : A) (r : Result Y F) → i < length items →
       item ≡ get_or items i item → Puts {E = E} taken failed old mid (flat_map f (take i items)) (Ok x) → Puts taken failed mid new (f item) r →
       Puts taken failed old new (flat_map f (take (i + 1) items)) r
@@ -92,7 +92,7 @@ module _ {W : Type 0} {taken : W → Option (List ℕ)} {failed : W → ℕ} {X 
       let there = subst (λ a. Puts taken failed mid new (f a) r) is next in
       subst (λ bytes. Puts taken failed old new bytes r) (sym (flat_map-take_more f items i item within)) (Puts-then r front there)
 
-  -- putting the next element failed, and the failure is passed on
+  -- writing the bytes of the next element failed, and the failure is passed on
   pub Puts-item_cut : {A : Type 0} {old mid new : W} {x : X} {e : E} (f : A → List ℕ) (items : List A) (i : ℕ) (item : A) (r : Result X E) → i < length items →
       item ≡ get_or items i item → Puts {E = E} taken failed old mid (flat_map f (take i items)) (Ok x) → Puts {X = X} taken failed mid new (f item) (Err e) →
       IsErr r → Puts taken failed old new (flat_map f items) r

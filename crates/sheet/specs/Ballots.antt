@@ -1,6 +1,6 @@
--- The ballots of a ward, in the file format that counting programs share (BLT). The file consists of the highest candidate number and the seats; the
--- numbers of withdrawn candidates, each after a minus; one line per bundle of equal valid papers; and the names. What the format doesn't provide for
--- is added in comments.
+-- The ballots of a ward, in the file format that counting programs share (BLT). The file consists of the highest candidate number and the number of
+-- seats; the numbers of withdrawn candidates, each after a minus; one line per bundle of equal valid papers; and the names. What the format doesn't
+-- provide for is added in comments.
 use Rattle.std.specs.Prelude.{ℕ, ◌-◌, Bool, true, false, List, [], ◌∷◌, ◌++◌, length, slice_get, codes, decimal, Option, Some, None, is_none}
 use Rattle.std.specs.List.{flat_map, filter, range_with_len}
 use Rattle.count.specs.Bundles.{Bundle}
@@ -23,7 +23,7 @@ highest_number candidates = number_or_none (slice_get candidates (length candida
 abbrev pub numbers_of : SheetEntry → List ℕ
 numbers_of ward = range_with_len 1 (highest_number ward.candidates)
 
--- `4 2`: the highest number, and the seats
+-- `4 2`: the highest candidate number, and the number of seats
 abbrev pub size_line : SheetEntry → List ℕ
 size_line ward = line (decimal (highest_number ward.candidates) ∷ codes " " ∷ decimal ward.seats ∷ [])
 
@@ -70,7 +70,7 @@ abbrev pub rejected_comment : Option Poll → List ℕ
 rejected_comment None = []
 rejected_comment (Some poll) = codes "# " ++ rejected_line poll.rejected
 
--- `# Lot at stage 3: 2`: the candidate drawn by a lot
+-- `# Lot at stage 3: 2`: the candidate drawn by lot
 abbrev pub lot_comment : (ℕ × ℕ) → List ℕ
 lot_comment lot = line (codes "# Lot at stage " ∷ decimal lot.0 ∷ codes ": " ∷ decimal lot.1 ∷ [])
 

@@ -14,19 +14,19 @@ use Rattle.sheet.specs.declared.stage.Fate.TheVariants.{NewlyElected, Elected, N
 use Rattle.sheet.specs.declared.cells.Cell.{Cell}
 use Rattle.sheet.specs.declared.cells.Cell.TheVariants.{Head, Candidate, NonTransferable, Lost}
 
--- the name of the candidate concerned by an action; empty for the first stage
+-- the name of the candidate that an action concerns; empty for the first stage
 abbrev pub name_in : List (ℕ × List ℕ) → Action → List ℕ
 name_in candidates First = []
 name_in candidates (Surplus c) = name_or_withdrawn (name_at candidates c)
 name_in candidates (Exclude c) = name_or_withdrawn (name_at candidates c)
 name_in candidates (ExcludeLast c) = name_or_withdrawn (name_at candidates c)
 
--- the head of a column: the stage and its action, with the candidate concerned
+-- the head of a column: the stage and its action, with the candidate that the action concerns
 abbrev pub column_head : List (ℕ × List ℕ) → ℕ → Action → List ℕ
 column_head candidates k action =
     line (codes "<th scope=\"col\">Stage " ∷ decimal k ∷ codes "<br>" ∷ action_named action (name_in candidates action) ∷ codes "</th>" ∷ [])
 
--- the head of a stage that follows earlier ones
+-- the head of a stage, given the stages before it
 abbrev pub head_cell : List (ℕ × List ℕ) → List Stage → Stage → List ℕ
 head_cell candidates earlier stage = column_head candidates (length earlier + 1) stage.action
 
@@ -65,14 +65,14 @@ votes_cell before now stands =
 abbrev pub sum_cell : ℕ → List ℕ
 sum_cell units = line (codes "<td>" ∷ votes_text units ∷ codes "</td>" ∷ [])
 
--- the content of a cell for a stage that follows earlier ones
+-- the content of a cell for a stage, given the stages before it
 abbrev pub cell_text : Cell → List Stage → Stage → List ℕ
 cell_text (Head ward) earlier stage = head_cell (shown ward.now).candidates earlier stage
 cell_text (Candidate c) earlier stage = votes_cell (votes_before earlier stage c) (votes_at stage c) (standing (fate_at earlier stage c))
 cell_text NonTransferable earlier stage = sum_cell stage.non_transferable
 cell_text Lost earlier stage = sum_cell stage.lost
 
--- a function applied to each of some stages and those before it, in order
+-- a function applied to each of the given stages and those before it, in order
 abbrev pub each_after : {X : Type 0} → (List Stage → Stage → List X) → List Stage → List Stage → List X
 each_after text earlier [] = []
 each_after text earlier (stage ∷ later) = text earlier stage ++ each_after text (earlier ++ stage ∷ []) later

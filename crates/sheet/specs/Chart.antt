@@ -16,12 +16,12 @@ use Rattle.sheet.specs.declared.chart.Ending.{Ending}
 use Rattle.sheet.specs.declared.chart.Ending.TheVariants.{Elected, Excluded, Neither}
 use Rattle.sheet.specs.declared.ward.Poll.{Poll}
 
--- the maximum of some values and another value
+-- the maximum of the given values and another value
 abbrev pub greatest : ℕ → List ℕ → ℕ
 greatest most [] = most
 greatest most (units ∷ others) = greatest (if nat_lt most units then units else most) others
 
--- the maximum of the votes at some stages and another value
+-- the maximum of the votes at the given stages and another value
 abbrev pub greatest_at : ℕ → List Stage → ℕ
 greatest_at most [] = most
 greatest_at most (stage ∷ later) = greatest_at (greatest most stage.votes) later
@@ -34,7 +34,7 @@ scale_of seats poll stages = let quota = quota_of poll.valid seats in record { q
 abbrev pub bar_length : Scale → ℕ → ℕ
 bar_length scale units = min (units * 100 / max scale.most 1) 100
 
--- the maximum of a candidate's votes at some stages and another value
+-- the maximum of a candidate's votes at the given stages and another value
 abbrev pub most_votes : ℕ → List Stage → ℕ → ℕ
 most_votes most [] c = most
 most_votes most (stage ∷ later) c = most_votes (if nat_lt most (votes_at stage c) then votes_at stage c else most) later c
@@ -47,7 +47,7 @@ elected_place stages c = position (λ s. list_any (nat_eq c) s.elected) stages
 abbrev pub excluded_place : List Stage → ℕ → Option ℕ
 excluded_place stages c = position (λ s. excludes s.action c) stages
 
--- the final outcome for a candidate: elected at a stage, or excluded at a stage, or neither up to the last stage
+-- the final outcome for a candidate: elected at a stage, or excluded at a stage, or neither by the last stage
 abbrev pub ending_by : ℕ → Option ℕ → Option ℕ → Ending
 ending_by last (Some place) excluded = Elected (place + 1)
 ending_by last None (Some place) = Excluded (place + 1)

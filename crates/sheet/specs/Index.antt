@@ -58,6 +58,6 @@ index_heads = line (
     codes "<h1>Wards</h1>\n<table class=\"index\">\n<thead>\n<tr><th scope=\"col\">Ward</th><th scope=\"col\">Seats</th>"
     ∷ codes "<th scope=\"col\">How it stands</th><th scope=\"col\">Elected</th></tr>\n</thead>\n<tbody>" ∷ [])
 
--- the page of all wards, with a title
+-- the page of all wards, with the given title
 abbrev pub index : List ℕ → List ListedEntry → List ℕ
 index title wards = index_opening ++ title_line title ++ index_heads ++ flat_map index_row wards ++ codes "</tbody>\n</table>\n</body>\n</html>\n"

@@ -13,7 +13,7 @@ joined parts = flat_map (λ part. part) parts
 unfoldable pub line : List (List ℕ) → List ℕ
 line parts = flat_map (λ part. part) parts ++ codes "\n"
 
--- a text, right-aligned in a number of columns
+-- a text, right-aligned in the given number of columns
 abbrev pub right_in : ℕ → List ℕ → List ℕ
 right_in places text = replicate (places - length text) 32 ++ text
 
@@ -33,7 +33,7 @@ span first last = if first == last then codes "Stage " ++ decimal first else cod
 abbrev pub preference : ℕ → List ℕ
 preference c = codes " " ++ decimal c
 
--- the numbers of some candidates, each preceded by a space
+-- the numbers of the given candidates, each preceded by a space
 abbrev pub preferences : List ℕ → List ℕ
 preferences list = flat_map preference list
 
@@ -62,7 +62,7 @@ plain text = flat_map plain_byte text
 abbrev pub named : ℕ → List ℕ → List ℕ
 named number name = decimal number ++ codes " <bdi>" ++ plain name ++ codes "</bdi>"
 
--- `exclusion of 3 <bdi>Cy</bdi>`: the action of a stage, on a page, with the number and the name of the candidate concerned
+-- `exclusion of 3 <bdi>Cy</bdi>`: the action of a stage, on a page, with the number and the name of the candidate that it concerns
 abbrev pub action_named : Action → List ℕ → List ℕ
 action_named First name = codes "first preferences"
 action_named (Surplus c) name = codes "surplus of " ++ named c name

@@ -10,11 +10,11 @@ use Rattle.sheet.specs.Entries.{SheetEntry}
 use Rattle.sheet.specs.Lines.{joined, line, named}
 use Rattle.sheet.specs.Stages.{is_excluded_at}
 
--- whether two candidates had equal votes at each of some stages
+-- whether two candidates had equal votes at each of the given stages
 abbrev pub are_equal_at : List Stage → ℕ → ℕ → Bool
 are_equal_at stages c d = list_all (λ s. votes_at s c == votes_at s d) stages
 
--- whether a candidate was tied with the one drawn by a lot: not excluded before it, and with equal votes at all stages
+-- whether a candidate was tied with the one drawn by lot: not excluded before it, and with equal votes at all stages
 abbrev pub is_tied : List Stage → ℕ → ℕ → Bool
 is_tied earlier c d = not (is_excluded_at earlier d) && are_equal_at earlier c d
 
@@ -34,7 +34,7 @@ abbrev pub tied_name : List (ℕ × List ℕ) → List Stage → ℕ → ℕ →
 tied_name candidates earlier c d name =
     if is_tied earlier c d then joined (tie_mark (has_tied_below candidates earlier c d) (has_tied_above candidates earlier c d) ∷ named d name ∷ []) else []
 
--- `2 Bob, 4 Dot and 5 Ed`: all candidates who were tied with the one drawn by a lot
+-- `2 Bob, 4 Dot and 5 Ed`: all candidates who were tied with the one drawn by lot
 abbrev pub tied_names : SheetEntry → List Stage → ℕ → List ℕ
 tied_names ward earlier c = flat_map (λ candidate. tied_name ward.candidates earlier c candidate.0 candidate.1) ward.candidates
 
@@ -49,7 +49,7 @@ abbrev pub settled_at : Option Stage → List ℕ
 settled_at None = codes ": drawn "
 settled_at (Some stage) = settled_by stage.action
 
--- the stages before the one with this number
+-- the stages before the one with the given number
 abbrev pub stages_before : List Stage → ℕ → List Stage
 stages_before stages k = take (k - 1) stages
 

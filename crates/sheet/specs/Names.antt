@@ -2,7 +2,7 @@
 use Rattle.std.specs.Prelude.{ℕ, ◌==◌, List, codes, Option, Some, None, option_map}
 use Rattle.std.specs.List.{find}
 
--- the name of the candidate with this number, if there is one
+-- the name of the candidate with the given number, if there is one
 abbrev pub name_at : List (ℕ × List ℕ) → ℕ → Option (List ℕ)
 name_at candidates c = option_map (λ candidate. candidate.1) (find (λ candidate. candidate.0 == c) candidates)
 

@@ -47,7 +47,7 @@ abbrev pub elected_item : ℕ → ℕ → ℕ → List ℕ → List ℕ
 elected_item k votes c name =
     line (codes "<li><b>" ∷ named c name ∷ codes "</b> <span>" ∷ votes_text votes ∷ codes " votes, elected at stage " ∷ decimal k ∷ codes "</span></li>" ∷ [])
 
--- an elected candidate, with the votes and the stage, if the candidate is elected at this stage
+-- an elected candidate, with the votes and the stage, if the candidate is elected at the given stage
 abbrev pub item_at : ℕ → Stage → ℕ → List ℕ → List ℕ
 item_at k stage c name = if list_any (nat_eq c) stage.elected then elected_item k (votes_at stage c) c name else []
 
@@ -64,7 +64,7 @@ abbrev pub elected_items : SheetEntry → Option Poll → List Stage → List �
 elected_items ward None stages = flat_map (λ candidate. unopposed_item candidate.0 candidate.1) ward.candidates
 elected_items ward (Some poll) stages = from_place (elected_at ward) 0 stages
 
--- the number of seats that remain after some stages
+-- the number of seats that remain after the given stages
 abbrev pub seats_left : ℕ → List Stage → ℕ
 seats_left seats [] = seats
 seats_left seats (stage ∷ later) = seats_left (seats - length stage.elected) later
@@ -116,7 +116,7 @@ papers_table seats poll = line (
     codes "</td></tr>\n<tr><th scope=\"row\">Papers in all</th><td>" ∷ decimal (poll.valid + rejected_in_all poll.rejected) ∷
     codes "</td></tr>\n</table>\n</div>\n</div>" ∷ [])
 
--- the note that a ward is uncontested
+-- the note saying that a ward is uncontested
 abbrev pub uncontested_text : ℕ → List ℕ
 uncontested_text seats =
     line (codes "<p>Seats: " ∷ decimal seats ∷ codes ". The ward is uncontested: there is no poll, and all its candidates are elected.</p>\n</div>\n</div>" ∷ [])

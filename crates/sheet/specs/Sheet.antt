@@ -36,7 +36,7 @@ rejected_line rejected = line (
 abbrev pub candidate_lines : SheetEntry → List Stage → Stage → List ℕ
 candidate_lines ward earlier stage = flat_map (λ candidate. candidate_line earlier stage candidate.0 candidate.1) ward.candidates
 
--- a stage that follows earlier ones
+-- a stage, given the stages before it
 abbrev pub stage_text : SheetEntry → List Stage → Stage → List ℕ
 stage_text ward earlier stage =
     heading (length earlier + 1) stage.action ++ candidate_lines ward earlier stage ++ sum_lines stage

@@ -29,7 +29,7 @@ abbrev pub name_cell : List ℕ → List ℕ
 name_cell [] = []
 name_cell (byte ∷ rest) = if begins_formula byte then codes "'" ++ byte ∷ rest else byte ∷ rest
 
--- the column heads of the stage with this number: `Stage 2: surplus of 1`, `Stage 2 gained`, `Stage 2 lost`, `Stage 2 standing`
+-- the column heads of the stage with the given number: `Stage 2: surplus of 1`, `Stage 2 gained`, `Stage 2 lost`, `Stage 2 standing`
 abbrev pub heads_at : ℕ → Stage → List (List ℕ)
 heads_at k stage =
     (codes "Stage " ++ (decimal k ++ (codes ": " ++ action_text stage.action))) ∷
@@ -37,7 +37,7 @@ heads_at k stage =
     (codes "Stage " ++ (decimal k ++ codes " lost")) ∷
     (codes "Stage " ++ (decimal k ++ codes " standing")) ∷ []
 
--- the column heads of a stage that follows earlier ones
+-- the column heads of a stage, given the stages before it
 abbrev pub stage_heads : List Stage → Stage → List (List ℕ)
 stage_heads earlier stage = heads_at (length earlier + 1) stage
 
@@ -47,7 +47,7 @@ value_in (Candidate c) stage = votes_at stage c
 value_in NonTransferable stage = stage.non_transferable
 value_in Lost stage = stage.lost
 
--- the value of a line at the last of some stages, or 0 before the first; the gains less the losses of all stages up to one add up to the value there
+-- the value of a line at the last of the given stages, or 0 before the first; the gains minus the losses of all stages up to a given one add up to the value at that stage
 abbrev pub value_after : Line → Option Stage → ℕ
 value_after line None = 0
 value_after line (Some stage) = value_in line stage

@@ -14,15 +14,15 @@ use Rattle.sheet.specs.declared.stage.Fate.TheVariants.{NewlyElected, Elected, N
 abbrev pub heading : ℕ → Action → List ℕ
 heading k action = line (codes "Stage " ∷ decimal k ∷ codes ": " ∷ action_text action ∷ [])
 
--- whether a candidate is newly elected at one of these stages
+-- whether a candidate is newly elected at one of the given stages
 abbrev pub is_elected_at : List Stage → ℕ → Bool
 is_elected_at stages c = list_any (λ s. list_any (nat_eq c) s.elected) stages
 
--- whether a candidate is excluded at one of these stages
+-- whether a candidate is excluded at one of the given stages
 abbrev pub is_excluded_at : List Stage → ℕ → Bool
 is_excluded_at stages c = list_any (λ s. excludes s.action c) stages
 
--- the standing of a candidate at a stage that follows earlier ones
+-- the standing of a candidate at a stage, given the stages before it
 abbrev pub fate_at : List Stage → Stage → ℕ → Fate
 fate_at earlier stage c =
     if is_elected_at (stage ∷ []) c then NewlyElected else (

@@ -29,7 +29,7 @@ sum_rows place stages =
     row (codes "<tr class=\"sum\"><th scope=\"row\">non-transferable</th>" ∷ []) (cell_text NonTransferable) (codes "</tr>") place stages
     ++ row (codes "<tr class=\"sum\"><th scope=\"row\">lost by fractions</th>" ∷ []) (cell_text Lost) (codes "</tr>\n</tbody>\n</table>\n</div>") place stages
 
--- the table of the stages, starting at a position
+-- the table of the stages, starting at the given position
 abbrev pub table : SheetEntry → ℕ → List Stage → List ℕ
 table ward place stages = head_row ward place stages ++ candidate_rows ward place stages ++ sum_rows place stages
 

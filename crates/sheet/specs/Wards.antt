@@ -5,7 +5,7 @@ use Rattle.votes.specs.Units.{max_papers, max_seats}
 use Rattle.sheet.specs.declared.ward.Ward.{Ward}
 use Rattle.sheet.specs.declared.ward.Poll.{Poll}
 
--- numbers in ascending order, the first above a bound, and the last at most the maximum number of candidates
+-- numbers in ascending order, the first above the given bound, and the last at most the maximum number of candidates
 abbrev pub Ascend : ℕ → List ℕ → Type 0
 Ascend low [] = ⊤
 Ascend low (c ∷ cs) = (low < c) × (c ≤ max_candidates) × Ascend c cs

@@ -26,7 +26,7 @@ fn highest_number(ward: &Ward) -> u8
     }
 }
 
-/// Returns the name of the candidate with this number, if there is one.
+/// Returns the name of the candidate with the given number, if there is one.
 fn name_at<'a>(ward: &Ward<'a>, c: u8) -> Option<&'a str>
     ensures { option_map (λ name. name.now) result ≡ name_at_of (shown ward.now).candidates c }
 {
@@ -38,7 +38,7 @@ fn name_at<'a>(ward: &Ward<'a>, c: u8) -> Option<&'a str>
     None
 }
 
-/// Returns the name of the candidate with this number, or the word for a withdrawn candidate.
+/// Returns the name of the candidate with the given number, or the word for a withdrawn candidate.
 pub fn name_or_withdrawn<'a>(ward: &Ward<'a>, c: u8) -> &'a str
     ensures { result.now ≡ name_or_withdrawn_of (name_at_of (shown ward.now).candidates c) }
 {
@@ -48,7 +48,7 @@ pub fn name_or_withdrawn<'a>(ward: &Ward<'a>, c: u8) -> &'a str
     }
 }
 
-/// Returns whether no candidate has this number.
+/// Returns whether no candidate has the given number.
 fn is_missing(ward: &Ward, c: u8) -> bool
     ensures { result ≡ is_none (name_at_of (shown ward.now).candidates c) }
 {
@@ -127,7 +127,7 @@ fn write_bundle_lines<W: Sink>(sink: &mut W, bundles: &Bundles) -> Result<(), Br
     Ok(())
 }
 
-/// Writes the name for a number.
+/// Writes the name for the given number.
 fn write_name_line<W: Sink>(sink: &mut W, ward: &Ward, c: u8) -> Result<(), Broken>
     requires { W.failed sink.old < 2 ^ 64 - 1 }
     ensures { Writes W.taken W.failed sink.old sink.new (name_line (shown ward.now).candidates c) result }
@@ -178,7 +178,7 @@ fn write_rejected_comment<W: Sink>(sink: &mut W, poll: Option<Poll>) -> Result<(
     write_rejected_line(sink, &poll.rejected)
 }
 
-/// Writes the candidate drawn by a lot, as a comment.
+/// Writes the candidate drawn by lot, as a comment.
 fn write_lot_comment<W: Sink>(sink: &mut W, lot: &(u8, u8)) -> Result<(), Broken>
     requires { W.failed sink.old < 2 ^ 64 - 1 }
     ensures { Writes W.taken W.failed sink.old sink.new (lot_comment lot.now) result }
@@ -193,7 +193,7 @@ fn write_lot_comment<W: Sink>(sink: &mut W, lot: &(u8, u8)) -> Result<(), Broken
     write_line(sink, &pieces)
 }
 
-/// Writes the candidates drawn by lots, as comments.
+/// Writes the candidates drawn by lot, as comments.
 fn write_lot_comments<W: Sink>(sink: &mut W, lots: &[(u8, u8)]) -> Result<(), Broken>
     requires { W.failed sink.old < 2 ^ 64 - 1 }
     ensures { Writes W.taken W.failed sink.old sink.new (flat_map lot_comment lots.now) result }
@@ -229,7 +229,8 @@ fn write_papers<W: Sink>(sink: &mut W, ward: &Ward, bundles: &Bundles) -> Result
 /// Writes the ballots of a ward, as a file in the format that counting programs share: its bundles of equal valid papers, and the
 /// recorded lots, each a stage and a candidate. An uncontested ward has no bundles.
 ///
-/// Allocates nothing. `Broken` only if the sink fails; it has then accepted a prefix of the file and counts one more failure.
+/// Allocates nothing. `Broken` only if the sink fails; it has then accepted a prefix of the file, and its failure count is one
+/// higher.
 pub fn write_ballots<W: Sink>(
     sink: &mut W,
     ward: &Ward,

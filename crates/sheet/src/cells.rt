@@ -18,7 +18,8 @@ use votes::Votes;
 /// A cell in a row of a table, for one stage.
 #[derive(Clone, Copy)]
 pub enum Cell<'a> {
-    /// The head of a column: the stage and its action, with the name of the candidate concerned, taken from this ward.
+    /// The head of a column: the stage and its action, with the name of the candidate that the action concerns, taken from the given
+    /// ward.
     Head(&'a Ward<'a>),
     /// A candidate's votes, their change, and the candidate's standing.
     Candidate(u8),
@@ -28,7 +29,7 @@ pub enum Cell<'a> {
     Lost,
 }
 
-/// Returns the votes of a candidate before a stage; for the first stage, the votes at that stage.
+/// Returns the given candidate's votes before the given stage; for the first stage, the votes at that stage.
 fn votes_before(earlier: &[Stage], stage: &Stage, c: u8) -> Votes
     ensures { result ≡ before_of earlier.now stage.now c }
 {
@@ -97,7 +98,7 @@ fn write_votes_cell<W: Sink>(
     write_line(sink, &[opening, votes, sign, apart, end, stands, closing])
 }
 
-/// Returns the name of the candidate concerned by an action; empty for the first stage.
+/// Returns the name of the candidate that an action concerns; empty for the first stage.
 fn name_in<'a>(ward: &Ward<'a>, action: Action) -> &'a str
     ensures { result.now ≡ name_with (shown ward.now).candidates action }
 {
@@ -138,7 +139,7 @@ fn write_sum_cell<W: Sink>(sink: &mut W, sum: Votes) -> Result<(), Broken>
     write_line(sink, &pieces)
 }
 
-/// Writes a cell for a stage that follows earlier ones.
+/// Writes the cell for the given stage, given the stages before it.
 fn write_cell<W: Sink>(
     sink: &mut W,
     cell: &Cell,
@@ -160,7 +161,7 @@ fn write_cell<W: Sink>(
     }
 }
 
-/// Writes one cell per stage, starting at a position.
+/// Writes one cell per stage, starting at the given position.
 fn write_cells<W: Sink>(
     sink: &mut W,
     cell: &Cell,
@@ -176,7 +177,7 @@ fn write_cells<W: Sink>(
     Ok(())
 }
 
-/// Writes a row: its beginning, one cell per stage starting at a position, and its end.
+/// Writes a row: its beginning, one cell per stage starting at the given position, and its end.
 pub fn write_row<W: Sink>(
     sink: &mut W,
     opening: &[Piece],

@@ -34,11 +34,11 @@ pub enum Ending {
     Elected(u64),
     /// The candidate is excluded at this stage.
     Excluded(u64),
-    /// The candidate is neither elected nor excluded up to this stage, the last one.
+    /// The candidate is neither elected nor excluded by this stage, the last one.
     Neither(u64),
 }
 
-/// Returns the maximum of some votes and another value.
+/// Returns the maximum of the given votes and another value.
 fn greatest_of(most: u64, votes: &[Votes]) -> u64
     ensures { result ≡ greatest most votes.now }
 {
@@ -51,7 +51,7 @@ fn greatest_of(most: u64, votes: &[Votes]) -> u64
     top
 }
 
-/// Returns the maximum of the votes at some stages and another value.
+/// Returns the maximum of the votes at the given stages and another value.
 fn greatest_of_stages(most: u64, stages: &[Stage]) -> u64
     ensures { result ≡ greatest_at most stages.now }
 {
@@ -85,7 +85,7 @@ fn bar_length(scale: Scale, units: u64) -> u64
     if hundreds < 100 { hundreds as u64 } else { 100 }
 }
 
-/// Returns the votes of a candidate at the first stage.
+/// Returns the given candidate's votes at the first stage.
 fn first_votes(stages: &[Stage], c: u8) -> Votes
     ensures { result ≡ votes_or 0 (slice_get stages.now 0) c }
 {
@@ -95,7 +95,7 @@ fn first_votes(stages: &[Stage], c: u8) -> Votes
     }
 }
 
-/// Returns the most votes that a candidate had at any stage.
+/// Returns the most votes that the given candidate had at any stage.
 fn most_votes(stages: &[Stage], c: u8) -> u64
     ensures { result ≡ most_of 0 stages.now c }
 {
@@ -109,7 +109,7 @@ fn most_votes(stages: &[Stage], c: u8) -> u64
     top
 }
 
-/// Returns the number of stages before the one at which a candidate is elected.
+/// Returns the number of stages before the one at which the given candidate is elected.
 fn elected_place(stages: &[Stage], c: u8) -> Option<usize>
     ensures is { result ≡ elected_at_place stages.now c }
     ensures within { IfSome result (λ place. place < length stages.now) }
@@ -117,7 +117,7 @@ fn elected_place(stages: &[Stage], c: u8) -> Option<usize>
     stages.iter().position(|stage| stage.elected.has(c))
 }
 
-/// Returns the number of stages before the one at which a candidate is excluded.
+/// Returns the number of stages before the one at which the given candidate is excluded.
 fn excluded_place(stages: &[Stage], c: u8) -> Option<usize>
     ensures is { result ≡ excluded_at_place stages.now c }
     ensures within { IfSome result (λ place. place < length stages.now) }
@@ -125,7 +125,7 @@ fn excluded_place(stages: &[Stage], c: u8) -> Option<usize>
     stages.iter().position(|stage| stage.action.excludes(c))
 }
 
-/// Returns the final outcome for a candidate.
+/// Returns the final outcome for the given candidate.
 fn ending_of(stages: &[Stage], c: u8) -> Ending
     ensures { result ≡ ending_at stages.now c }
 {

@@ -39,7 +39,8 @@ impl<'a> OfCandidate for ElectedLine<'a> {
 /// Writes the declaration of a ward: its number and name, and one line per elected candidate. In an uncontested ward, these are all
 /// its candidates.
 ///
-/// Allocates nothing. `Broken` only if the sink fails; it has then accepted a prefix of the declaration and counts one more failure.
+/// Allocates nothing. `Broken` only if the sink fails; it has then accepted a prefix of the declaration, and its failure count is one
+/// higher.
 pub fn write_declaration<W: Sink>(sink: &mut W, ward: &Ward, elected: Columns) -> Result<(), Broken>
     requires ward { CanBePrinted ward.now }
     requires failures { W.failed sink.old < 2 ^ 64 - 1 }

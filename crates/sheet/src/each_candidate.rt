@@ -8,12 +8,12 @@ ghost use Rattle.sheet.specs.Writing.{Writes};
 use crate::ward::Ward;
 use streams::{Broken, Sink};
 
-/// A text that is shown in the same way for each candidate.
+/// A text that is shown the same way for each candidate.
 pub trait OfCandidate {
     // The text, given the candidate's number and name.
     ghost text: { Self → ℕ → List ℕ → List ℕ };
 
-    /// Writes the text for a candidate, given as number and name.
+    /// Writes the text for a candidate, given the candidate's number and name.
     fn write<W: Sink>(&self, sink: &mut W, candidate: &(u8, String)) -> Result<(), Broken>
         requires { W.failed sink.old < 2 ^ 64 - 1 }
         ensures { Writes W.taken W.failed sink.old sink.new (text self.now candidate.now.0 (string_bytes candidate.now.1)) result };

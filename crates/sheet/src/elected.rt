@@ -42,7 +42,7 @@ impl<'a> OfCandidate for ItemAt<'a> {
     }
 }
 
-/// Writes the candidates elected at a stage, in ascending order of their numbers.
+/// Writes the candidates elected at the given stage, in ascending order of their numbers.
 fn write_elected_at<W: Sink>(
     sink: &mut W,
     ward: &Ward,
@@ -100,7 +100,7 @@ pub fn write_elected_items<W: Sink>(
     }
 }
 
-/// Returns the number of seats that remain after some stages.
+/// Returns the number of seats that remain after the given stages.
 fn seats_left(seats: u8, stages: &[Stage]) -> usize
     ensures { result ≡ left_of seats stages.now }
 {

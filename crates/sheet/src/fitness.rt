@@ -7,7 +7,7 @@ use crate::ward::{Poll, Ward};
 use paper::MAX_CANDIDATES;
 use votes::{MAX_PAPERS, MAX_SEATS};
 
-/// Returns whether candidate numbers are in ascending order, above a bound, and at most the maximum.
+/// Returns whether candidate numbers are in ascending order, above the given bound, and at most the maximum.
 fn ascend_above(low: u8, candidates: &[(u8, String)]) -> bool
     ensures { IsTrue result ↔ Ascend low (map (λ candidate. candidate.0) candidates.now) }
 {
@@ -21,7 +21,7 @@ fn ascend_above(low: u8, candidates: &[(u8, String)]) -> bool
     true
 }
 
-/// Returns whether a poll, if there is one, has at most as many valid papers as a ward can have.
+/// Returns whether the poll, if there is one, has at most as many valid papers as a ward can have.
 fn has_few_papers(poll: Option<Poll>) -> bool
     ensures { IsTrue result ↔ HasFewPapers poll }
 {
@@ -31,8 +31,8 @@ fn has_few_papers(poll: Option<Poll>) -> bool
     }
 }
 
-/// Returns whether a ward can be printed: it has 1 to [`MAX_SEATS`] seats, candidates in ascending order of their numbers, which
-/// are 1 to [`MAX_CANDIDATES`], and at most [`MAX_PAPERS`] valid papers.
+/// Returns whether the ward can be printed: it has 1 to [`MAX_SEATS`] seats, candidates in ascending order of their numbers,
+/// which are 1 to [`MAX_CANDIDATES`], and at most [`MAX_PAPERS`] valid papers.
 pub fn can_be_printed(ward: &Ward) -> bool
     ensures { IsTrue result ↔ CanBePrinted ward.now }
 {

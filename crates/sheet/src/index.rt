@@ -139,7 +139,8 @@ fn write_index_heads<W: Sink>(sink: &mut W) -> Result<(), Broken>
 /// Writes the page of all wards, as one HTML file: the seats and the status of each ward, and its elected candidates once it is
 /// declared. An empty title is omitted.
 ///
-/// Allocates nothing. `Broken` only if the sink fails; it has then accepted a prefix of the page and counts one more failure.
+/// Allocates nothing. `Broken` only if the sink fails; it has then accepted a prefix of the page, and its failure count is one
+/// higher.
 pub fn write_index<W: Sink>(sink: &mut W, title: &str, wards: &[ListedWard]) -> Result<(), Broken>
     requires { W.failed sink.old < 2 ^ 64 - 1 }
     ensures { Writes W.taken W.failed sink.old sink.new (index title.now (map listed wards.now)) result }

@@ -30,9 +30,9 @@ pub enum Piece<'a> {
     Span(u64, u64),
     /// The action of a stage.
     Done(Action),
-    /// The action of a stage on a page, with the name of the candidate concerned.
+    /// The action of a stage on a page, with the name of the candidate that it concerns.
     DoneWith(Action, &'a str),
-    /// The numbers of some candidates, each preceded by a space.
+    /// The numbers of the given candidates, each preceded by a space.
     Preferences(&'a [u8]),
     /// A text in quotation marks.
     Quoted(&'a str),
@@ -148,7 +148,7 @@ fn write_preference<W: Sink>(sink: &mut W, c: u8) -> Result<(), Broken>
     write_number(sink, c)
 }
 
-/// Writes the numbers of some candidates, each preceded by a space.
+/// Writes the numbers of the given candidates, each preceded by a space.
 fn write_preferences<W: Sink>(sink: &mut W, list: &[u8]) -> Result<(), Broken>
     requires { W.failed sink.old < 2 ^ 64 - 1 }
     ensures { Writes W.taken W.failed sink.old sink.new (preferences list.now) result }
@@ -219,7 +219,7 @@ fn write_acted_on_named<W: Sink>(sink: &mut W, what: &str, c: u8, name: &str) ->
     write_named(sink, u64::from(c), name)
 }
 
-/// Writes the action of a stage to a page, with the name of the candidate concerned.
+/// Writes the action of a stage to a page, with the name of the candidate that it concerns.
 fn write_action_named<W: Sink>(sink: &mut W, action: Action, name: &str) -> Result<(), Broken>
     requires { W.failed sink.old < 2 ^ 64 - 1 }
     ensures { Writes W.taken W.failed sink.old sink.new (action_named action name.now) result }

@@ -22,28 +22,28 @@ use crate::ward::Ward;
 use count::{Action, Stage};
 use streams::{Broken, Sink};
 
-/// Returns whether two candidates had equal votes at each of these stages.
+/// Returns whether two candidates had equal votes at each of the given stages.
 fn are_equal_at(stages: &[Stage], c: u8, d: u8) -> bool
     ensures { result ≡ are_equal_over stages.now c d }
 {
     stages.iter().all(|stage| votes_of(stage, c).units() == votes_of(stage, d).units())
 }
 
-/// Returns whether a candidate was tied with the one drawn by a lot.
+/// Returns whether the candidate was tied with the one drawn by lot.
 fn is_tied(earlier: &[Stage], c: u8, d: u8) -> bool
     ensures { result ≡ is_tied_with earlier.now c d }
 {
     !is_excluded_at(earlier, d) && are_equal_at(earlier, c, d)
 }
 
-/// Returns whether some tied candidate has a lower number than this candidate.
+/// Returns whether some tied candidate has a lower number than the given candidate.
 fn has_tied_below(candidates: &[(u8, String)], earlier: &[Stage], c: u8, d: u8) -> bool
     ensures { result ≡ tied_below_of candidates.now earlier.now c d }
 {
     candidates.iter().any(|candidate| candidate.0 < d && is_tied(earlier, c, candidate.0))
 }
 
-/// Returns whether some tied candidate has a higher number than this candidate.
+/// Returns whether some tied candidate has a higher number than the given candidate.
 fn has_tied_above(candidates: &[(u8, String)], earlier: &[Stage], c: u8, d: u8) -> bool
     ensures { result ≡ tied_above_of candidates.now earlier.now c d }
 {
@@ -60,7 +60,7 @@ fn tie_mark(has_below: bool, has_above: bool) -> &'static str
     if has_above { ", " } else { " and " }
 }
 
-/// The name of a candidate who was tied with the one drawn by a lot; empty for any other candidate.
+/// The name of a candidate who was tied with the one drawn by lot; empty for any other candidate.
 #[derive(Clone, Copy)]
 struct TiedName<'a> {
     candidates: &'a [(u8, String)],
@@ -83,8 +83,8 @@ impl<'a> OfCandidate for TiedName<'a> {
     }
 }
 
-/// States the law of the tied candidates that a page names with a lot, for its callers: they are those who are tied according to the
-/// count.
+/// States the law of the candidates that a page names as tied for a lot, for its callers: they are those who are tied according to
+/// the count.
 pub fn ties_are_of_the_count()
     ensures { (contest : Contest) (handed : History → Stage → Option ℕ) (stages : History) (k c : ℕ) (kind : TiedFor) (tied : List ℕ) → IsContest contest → AreRankings contest.papers
         → IsRightBy contest handed stages → due_after contest stages ≡ Lot k kind tied → In c tied → filter (is_tied_with (reverse stages) c) contest.candidates ≡ tied }
@@ -102,7 +102,7 @@ fn settled_by(action: Action) -> &'static str
     }
 }
 
-/// Returns what the lot for a stage decided, if that stage has been completed.
+/// Returns what the lot for the given stage decided, if that stage has been completed.
 fn settled_at(stages: &[Stage], k: u8) -> &'static str
     ensures { result.now ≡ settled_in (slice_get stages.now (k - 1)) }
 {
@@ -112,7 +112,7 @@ fn settled_at(stages: &[Stage], k: u8) -> &'static str
     }
 }
 
-/// Returns the stages before the one with this number.
+/// Returns the stages before the one with the given number.
 fn stages_before(stages: &[Stage], k: u8) -> &[Stage]
     ensures { result.now ≡ take (k - 1) stages.now }
 {

@@ -159,7 +159,7 @@ fn write_papers_table<W: Sink>(sink: &mut W, seats: u8, poll: &Poll) -> Result<(
     write_line(sink, &pieces)
 }
 
-/// Writes that a ward is uncontested.
+/// Writes a note saying that the ward is uncontested.
 fn write_uncontested<W: Sink>(sink: &mut W, seats: u8) -> Result<(), Broken>
     requires { W.failed sink.old < 2 ^ 64 - 1 }
     ensures { Writes W.taken W.failed sink.old sink.new (uncontested_text seats) result }
@@ -255,7 +255,8 @@ fn write_foot<W: Sink>(
 /// and a candidate), and the stages both as a chart and as tables; if the ward is declared, it also has lines for signatures. An
 /// empty title is omitted. For an uncontested ward, stages and lots aren't read.
 ///
-/// Allocates nothing. `Broken` only if the sink fails; it has then accepted a prefix of the page and counts one more failure.
+/// Allocates nothing. `Broken` only if the sink fails; it has then accepted a prefix of the page, and its failure count is one
+/// higher.
 pub fn write_page<W: Sink>(
     sink: &mut W,
     ward: &Ward,

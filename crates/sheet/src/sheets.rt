@@ -42,7 +42,8 @@ fn write_below_ward<W: Sink>(sink: &mut W, ward: &Ward, stages: &[Stage]) -> Res
 /// Writes the stage sheet of a ward: its number and name, its seats and papers, and each stage with one line per candidate. For an
 /// uncontested ward, the stages aren't read.
 ///
-/// Allocates nothing. `Broken` only if the sink fails; it has then accepted a prefix of the sheet and counts one more failure.
+/// Allocates nothing. `Broken` only if the sink fails; it has then accepted a prefix of the sheet, and its failure count is one
+/// higher.
 pub fn write_sheet<W: Sink>(sink: &mut W, ward: &Ward, stages: &[Stage]) -> Result<(), Broken>
     requires ward { CanBePrinted ward.now }
     requires failures { W.failed sink.old < 2 ^ 64 - 1 }

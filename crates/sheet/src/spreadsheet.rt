@@ -32,7 +32,7 @@ fn standing_word(fate: Fate) -> &'static str
 /// The subject of a row of the table.
 #[derive(Clone, Copy)]
 enum Line {
-    /// The votes of the candidate with this number.
+    /// The votes of the candidate with the given number.
     Candidate(u8),
     /// The running total of the non-transferable votes.
     NonTransferable,
@@ -41,7 +41,7 @@ enum Line {
 }
 
 impl Line {
-    /// Returns the value of the line at a stage.
+    /// Returns the value of the line at the given stage.
     fn value_in(self, stage: &Stage) -> Votes
         ensures { result ≡ value_in_of self stage.now }
     {
@@ -52,7 +52,7 @@ impl Line {
         }
     }
 
-    /// Returns the value of the line at the last of some stages; 0 before the first.
+    /// Returns the value of the line at the last of the given stages; 0 before the first.
     fn value_before(self, earlier: &[Stage]) -> Votes
         ensures { result ≡ value_before_of self earlier.now }
     {
@@ -62,7 +62,7 @@ impl Line {
         }
     }
 
-    /// Returns the standing after a stage, if the line is a candidate's.
+    /// Returns the standing after the given stage, if the line is a candidate's.
     fn standing(self, earlier: &[Stage], stage: &Stage) -> &'static str
         ensures { result.now ≡ standing_of self earlier.now stage.now }
     {
@@ -96,7 +96,7 @@ fn push_value(alloc: Global, row: &mut Vec<String>, value: Votes) -> Result<(), 
     Ok(())
 }
 
-/// Appends the cells of a line at a stage; `AllocError` if an allocation fails.
+/// Appends the cells of the line at the given stage; `AllocError` if an allocation fails.
 fn push_cells(
     alloc: Global,
     row: &mut Vec<String>,
@@ -114,7 +114,7 @@ fn push_cells(
     push_text(alloc, row, line.standing(earlier, stage))
 }
 
-/// Appends the cells of a line at all stages; `AllocError` if an allocation fails.
+/// Appends the cells of the line at all stages; `AllocError` if an allocation fails.
 fn push_all_cells(
     alloc: Global,
     row: &mut Vec<String>,
@@ -129,7 +129,7 @@ fn push_all_cells(
     Ok(())
 }
 
-/// Appends the column heads of a stage; `AllocError` if an allocation fails.
+/// Appends the column heads of the given stage; `AllocError` if an allocation fails.
 fn push_heads(
     alloc: Global,
     row: &mut Vec<String>,
@@ -168,7 +168,7 @@ fn head_row(alloc: Global, stages: &[Stage]) -> Result<Vec<String>, AllocError>
     Ok(row)
 }
 
-/// Returns whether a spreadsheet reads a cell with this first byte as a formula.
+/// Returns whether a spreadsheet reads a cell with the given first byte as a formula.
 fn begins_formula(byte: u8) -> bool
     ensures { result ≡ begins_formula_of byte }
 {

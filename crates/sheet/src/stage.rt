@@ -43,21 +43,21 @@ fn write_heading<W: Sink>(sink: &mut W, k: u64, action: Action) -> Result<(), Br
     write_line(sink, &pieces)
 }
 
-/// Returns whether a candidate is newly elected at one of these stages.
+/// Returns whether the candidate is newly elected at one of the given stages.
 pub fn is_elected_at(stages: &[Stage], c: u8) -> bool
     ensures { result ≡ is_elected_of stages.now c }
 {
     stages.iter().any(|stage| stage.elected.has(c))
 }
 
-/// Returns whether a candidate is excluded at one of these stages.
+/// Returns whether the candidate is excluded at one of the given stages.
 pub fn is_excluded_at(stages: &[Stage], c: u8) -> bool
     ensures { result ≡ is_excluded_of stages.now c }
 {
     stages.iter().any(|stage| stage.action.excludes(c))
 }
 
-/// Returns the standing of a candidate at a stage that follows earlier ones.
+/// Returns the standing of the candidate at the stage, given the stages before it.
 pub fn fate_at(earlier: &[Stage], stage: &Stage, c: u8) -> Fate
     ensures { result ≡ fate_of earlier.now stage.now c }
 {
@@ -89,7 +89,7 @@ fn letter(fate: Fate) -> &'static str
     }
 }
 
-/// Returns the votes of a candidate at a stage.
+/// Returns the given candidate's votes at the given stage.
 pub fn votes_of(stage: &Stage, c: u8) -> Votes
     ensures { result ≡ votes_at stage.now c }
 {
@@ -99,7 +99,7 @@ pub fn votes_of(stage: &Stage, c: u8) -> Votes
     }
 }
 
-/// The line of a candidate at a stage that follows earlier ones.
+/// The line of a candidate at a stage, given the stages before it.
 #[derive(Clone, Copy)]
 struct CandidateLine<'a> {
     earlier: &'a [Stage],
@@ -147,7 +147,7 @@ fn write_sum_lines<W: Sink>(sink: &mut W, stage: &Stage) -> Result<(), Broken>
     write_sum_line(sink, stage.lost, "lost by fractions")
 }
 
-/// Writes a stage that follows earlier ones.
+/// Writes the stage, given the stages before it.
 pub fn write_stage<W: Sink>(
     sink: &mut W,
     ward: &Ward,

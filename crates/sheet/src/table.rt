@@ -89,7 +89,7 @@ fn write_table<W: Sink>(sink: &mut W, block: &Block) -> Result<(), Broken>
     write_sum_rows(sink, block)
 }
 
-/// Returns the stages up to the eighth after a position, or all of them if there are fewer.
+/// Returns the stages up to the eighth after the given position, or all of them if there are fewer.
 fn up_to_eighth(stages: &[Stage], place: usize) -> &[Stage]
     ensures { result.now ≡ take (place + 8) stages.now }
 {
@@ -100,7 +100,7 @@ fn up_to_eighth(stages: &[Stage], place: usize) -> &[Stage]
     }
 }
 
-/// Writes a table if the position is a multiple of eight.
+/// Writes the table at the given position if the position is a multiple of eight.
 fn write_table_at<W: Sink>(
     sink: &mut W,
     ward: &Ward,

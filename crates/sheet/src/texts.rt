@@ -20,7 +20,7 @@ use paper::Columns;
 use std::alloc::{AllocError, Global};
 use streams::{Broken, Sink};
 
-/// A sink in memory, which fails if an allocation fails.
+/// An in-memory sink, which fails if an allocation fails.
 #[derive(Drop)]
 struct InMemory {
     text: Vec<u8>,

@@ -146,7 +146,7 @@ module _ (s : OfficeState) (w : WardEntry) (is : IsState s) (there : ward_at s w
   abbrev shown_by : Bool → SheetEntry
   shown_by b = shown_with (cond b (Some (record { valid = length papers; rejected = (election_of s w).ballots.rejected })) None) (election_of s w)
 
-  -- its ballots can be read back, whether the ward is contested or uncontested
+  -- the ward's ballots can be read back, whether it is contested or uncontested
   pub can_be_read_back : CanBeReadBack (election_shown (election_of s w)) (bundles_shown (election_of s w)) (lots_shown (election_of s w))
   can_be_read_back = go (has_count (election_of s w)) refl
     where

@@ -30,7 +30,7 @@ use Rattle.register.specs.Elections.{ElectionEntry, contest_of, due_of, elected_
 use Rattle.register.proofs.BundledLemmas.{due-alike, fair-alike, other_order, stages-alike}
 use Rattle.office.specs.Sheets.{candidate_shown, shown_with}
 
--- if nothing is due with the lots, nothing is due
+-- if nothing is due given the lots, nothing is due
 nothing_due : (contest : Contest) (lots : List (ℕ × ℕ)) (stages : History) → is_finished (due_by contest lots stages) ≡ true → due_after contest stages ≡ Finished
 nothing_due contest lots stages is = go (due_after contest stages) (next_action contest lots stages) is
   where
@@ -78,14 +78,14 @@ module _ (e : ElectionEntry) (poll : Option Poll) (own : map (λ (candidate : �
   whole : IsWholeCount on_bundles e.lots (stages_of e)
   whole = whole_count on_bundles e.lots (stages_of e) end.Finished right ended
 
-  -- its count ends with the stages already done
+  -- its count ends with the completed stages
   pub counted : EndsAt on_bundles e.lots (reverse (stages_of e)) end.Finished
   counted = record {
     whole = subst (IsWholeCount on_bundles e.lots) (sym (reverse-reverse (stages_of e))) whole;
     ended = subst (λ (h : History). end_after on_bundles e.lots h ≡ Some end.Finished) (sym (reverse-reverse (stages_of e))) ended;
   }
 
-  -- any count of it that has ended has these stages,
+  -- any count of the election that has ended has these stages,
   only_stages : (stages : List Stage) (why : CountEnd) → EndsAt on_bundles e.lots stages why → stages_of e ≡ reverse stages
   only_stages stages why is =
       let count : IsCount on_bundles e.lots (stages_of e) = whole.ended in
@@ -94,7 +94,7 @@ module _ (e : ElectionEntry) (poll : Option Poll) (own : map (λ (candidate : �
   pub stages_alone : (stages : List Stage) (why : CountEnd) → EndsAt on_bundles e.lots stages why → stages ≡ reverse (stages_of e)
   stages_alone stages why is = sym (reverse-reverse stages) ∙ ap (λ (h : History). reverse h) (sym (only_stages stages why is))
 
-  -- and ended for this reason
+  -- and has ended for this reason
   pub end_alone : (stages : List Stage) (why : CountEnd) → EndsAt on_bundles e.lots stages why → Some why ≡ Some end.Finished
   end_alone stages why is = sym is.ended ∙ ap (λ (h : History). end_after on_bundles e.lots h) (sym (only_stages stages why is)) ∙ ended
 

@@ -28,7 +28,7 @@ declared_is_sealed Declared is = refl
 pub declared_finished : DeclaredAreFinished
 declared_finished s w of declared = declared_is_finished (election_of s w) (declared_is_sealed w.phase declared) (counted_right s w of.state of.there) declared
 
--- from the laws of reading back, of the texts, and of a ward's columns
+-- given the laws of reading back, of the texts, and of a ward's columns
 module _
     (read_back : AreReadBack) (checked_so : AreCheckedAsTold) (hindered_so : AreHinderedAsTold) (textual : (s : OfficeState) (w : WardEntry) → IsState s
     → ward_at s w.number ≡ Some w → IsTextual (election_of s w))

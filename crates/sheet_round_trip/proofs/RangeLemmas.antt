@@ -48,7 +48,7 @@ names_are (c ∷ cs) fine =
 
 -- ---- lots
 
--- the lots of a state each fit in one byte
+-- the stage and the candidate of each lot of a state fit in one byte each
 pub lots_small : (ls : List LotEntry) → list_all is_lot ls ≡ true → AreSmall (map lot_pair ls)
 unfolding is_lot
 lots_small [] fine = tt

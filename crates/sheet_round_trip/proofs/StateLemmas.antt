@@ -1,4 +1,4 @@
--- The texts of each finished ward of a state are confirmed by its ballots.
+-- The texts of each finished ward of a state are confirmed by the ward's ballots.
 use Rattle.std.proofs.Common.{◌≡◌, ℕ, ◌+◌, ◌||◌, ◌==◌, Bool, true, false, not, cond, List, [], length, map, reverse, Option, Some, None, refl, sym, ap, subst, ◌∙◌}
 use Rattle.std.specs.List.{list_all}
 use Rattle.std.proofs.lemmas.Bool.{and_parts, cond-false, cond-true, eqb-true}
@@ -26,14 +26,14 @@ use Rattle.sheet_round_trip.specs.OwnTexts.{IsFinished}
 use Rattle.sheet_round_trip.proofs.FinishedLemmas.{same_elected}
 use Rattle.sheet_round_trip.proofs.YesLemmas.{HasYes, IsYes, counted_has, uncontested_has}
 
--- the count of each ward of a state is right
+-- the count of each ward of a state is correct
 pub counted_right : (s : OfficeState) (w : WardEntry) → IsState s → ward_at s w.number ≡ Some w → is_counted_right (election_of s w) ≡ true
 unfolding all_counted
 counted_right s w is there =
     let rights : Bool = list_all (λ x. is_counted_right (election_of s x)) s.wards in
     found_passes (ward_compared w.number) (λ x. is_counted_right (election_of s x)) w s.wards (and_parts _ rights is.counted).1 there
 
--- if nothing is due, nothing is due with the lots
+-- if nothing is due, nothing is due given the lots
 none_by_lots : (contest : Contest) (lots : List (ℕ × ℕ)) (stages : History) → is_finished (due_after contest stages) ≡ true → is_finished (due_by contest lots stages) ≡ true
 none_by_lots contest lots stages is = go (due_after contest stages) (lot_for lots (length stages + 1)) is
   where
@@ -43,18 +43,18 @@ none_by_lots contest lots stages is = go (due_after contest stages) (lot_for lot
     go Finished None none = refl
     go Finished (Some c) none = refl
 
--- a sealed ward whose count is right
+-- a sealed ward whose count is correct
 module _ (e : ElectionEntry) (sealed : is_counted e.ward.phase ≡ true) (right : is_counted_right e ≡ true) where
   abbrev is_ended : Bool
   is_ended = not (is_declared e.ward.phase) || is_finished (due_after (contest_of e) (stages_of e))
 
-  -- if it is contested, every lot was drawn, and once the ward is declared nothing is due
+  -- if the ward is contested, every lot has been drawn, and once the ward is declared nothing is due
   drawn_and_ended : has_count e ≡ true → (list_all (is_drawn_for e) e.lots ≡ true) × (is_ended ≡ true)
   drawn_and_ended contested =
       let so_far : is_right_so_far e ≡ true = sym (cond-true (is_in_count e) _ _ (rw sealed contested)) ∙ right in
       and_parts (list_all (is_drawn_for e) e.lots) is_ended (and_parts (length (stages_of e) == e.ward.done) _ so_far).1
 
-  -- if it is uncontested, it has no stages
+  -- if the ward is uncontested, it has no stages
   no_stages : has_count e ≡ false → stages_of e ≡ []
   unfolding stages_to
   no_stages uncontested =

@@ -1,4 +1,4 @@
--- The texts of a small ward, by hand: two papers, a withdrawn number, a name with quotation marks, and a lot.
+-- The texts of a small ward, written by hand: two papers, a withdrawn number, a name with quotation marks, and a lot.
 use Rattle.std.proofs.Common.{◌++◌, [], ◌∷◌, refl}
 use Rattle.std.specs.Fmt.{digits}
 use Rattle.std.specs.List.Sorted.{IsStrictlySortedBy}
@@ -20,7 +20,7 @@ use Rattle.office.specs.declared.sheets.WardText.TheVariants.{Ballots, Declarati
 use Rattle.sheet_round_trip.specs.OwnTexts.{IsFinished, IsTold, IsWardOf}
 
 -- Harbour has two seats and three candidates; number 2 withdrew. Two clerks keyed its two papers identically, the second as doubtful,
--- which was accepted. At stage 3 the remaining two are tied, and the lot fell on 4.
+-- which was accepted. At stage 3 the remaining two were tied, and the lot fell on 4.
 abbrev harbour : WardEntry
 harbour = record { number = 7; seats = 2; phase = Declared; done = 3; name = codes "Harbour" }
 

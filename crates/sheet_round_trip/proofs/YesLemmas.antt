@@ -29,7 +29,7 @@ use Rattle.sheet_round_trip.proofs.FinishedLemmas.{all_drawn, counted, end_alone
 
 -- ---- the sheet and the declaration
 
--- after the ward's line, a sheet continues with the seats,
+-- after the ward's line, a sheet continues with the seats
 below_begins : (ward : SheetEntry) (poll : Option Poll) (stages : List Stage) → get_or (below_ward ward poll stages) 0 0 ≡ 83
 unfolding line
 below_begins ward None stages = refl
@@ -40,7 +40,7 @@ declaration_begins : (ward : SheetEntry) (elected : List ℕ) → get_or (electe
 unfolding line
 declaration_begins ward elected = refl
 
--- so no sheet of a ward is also a declaration of it
+-- so no sheet of a ward equals a declaration of that ward
 apart : (ward : SheetEntry) (stages : List Stage) (elected : List ℕ) → sheet ward stages ≢ declaration ward elected
 apart ward stages elected same =
     let rest : List ℕ = elected_heading ++ elected_lines ward elected in
@@ -73,7 +73,7 @@ pub record HasYes (ward : SheetEntry) (bundles : List Bundle) (lots : List (ℕ 
   pub alone : (other : Checked) → IsWardCheck ward.poll ward bundles lots text other → other ≡ answer
   pub unhindered : (why : Problem) → IsWardProblem ward.poll ward bundles lots why → why ≡ problem.Memory
 
--- such a text is confirmed by the ward's ballots
+-- a text with these properties is confirmed by the ward's ballots
 pub confirmed : (ward : SheetEntry) (bundles : List Bundle) (lots : List (ℕ × ℕ)) (text : List ℕ) (answer : Checked) → AreReadBack → AreCheckedAsTold
     → AreHinderedAsTold → CanBeReadBack ward bundles lots
     → HasYes ward bundles lots text answer → IsConfirmed (ballots ward bundles lots) text answer
@@ -114,7 +114,7 @@ module _
     abbrev contest : Contest
     contest = contest_in ward (bundled e.ballots.papers)
 
-    -- a comparison with the sheet and the declaration, as made by the check after some stages
+    -- a comparison with the sheet and the declaration, as made by the check after the given stages
     abbrev IsCompared : List Stage → List ℕ → Checked → Type 0
     IsCompared stages text told = IsComparison text (sheet ward stages) (declaration ward (elected_after contest (reverse stages))) told
 

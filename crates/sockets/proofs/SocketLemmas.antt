@@ -1,4 +1,4 @@
--- The reads and writes of a stream about whose bytes nothing is known.
+-- Reads from and writes to a stream about whose bytes nothing is known.
 use Rattle.std.proofs.Common.{◌≡◌, ◌⊎◌, inl, inr, ◌<◌, ◌≤◌, ℕ, Bool, List, None, Option, Some, Ok, Err, Result, length, refl, subst, suc, sym, true, arith, zero}
 use Rattle.std.specs.Prelude.{IfOk}
 use Rattle.streams.specs.declared.streams.Broken.{Broken}
@@ -23,7 +23,7 @@ gives_untold read room (Ok Nothing) within told = tt
 gives_untold read room (Ok End) within told = (tt, tt)
 gives_untold read room (Err broken) within told = tt
 
--- no more was written than there were bytes
+-- no more bytes were written than there were
 pub takes_untold : {E : Type 0} (written : Result ℕ E) (bytes : List ℕ) (r : Result ℕ Broken) → IfOk written (λ n. n ≤ length bytes)
     → IfOk r (λ n. (n ≡ 0) ⊎ (written ≡ Ok n)) → Takes None None bytes r
 takes_untold written bytes (Ok n) within (inl none) = (omega (arith, none), refl)
@@ -44,14 +44,14 @@ order_wanted clients_too Nobody at = tt
 order_wanted clients_too NotNow at = tt
 order_wanted clients_too Full at = tt
 
--- and clients, if they are allowed
+-- and clients may be accepted if they are allowed
 pub client_wanted : (clients_too : Bool) (a : AcceptOutcome Socket) → IsAtListener Clients a → clients_too ≡ true → IsWanted clients_too a
 client_wanted clients_too (One accepted) at wanted = subst (MayCome clients_too) (sym at.0) wanted
 client_wanted clients_too Nobody at wanted = tt
 client_wanted clients_too NotNow at wanted = tt
 client_wanted clients_too Full at wanted = tt
 
--- the socket of a connection is of the kind of the listener that accepted it
+-- a connection's socket is of the kind that its listener accepts
 pub comes_by_door : (listener : Listener) (a : AcceptOutcome Socket) → IsAtListener listener a → ComesByListener a
 comes_by_door listener (One accepted) at = subst (λ d. FitsListener d accepted.stream) (sym at.0) at.1
 comes_by_door listener Nobody at = tt

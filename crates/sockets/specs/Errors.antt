@@ -1,4 +1,4 @@
--- What an error of the system means for a listener.
+-- What a system error means for a listener.
 use Rattle.std.specs.Prelude.{◌==◌, ◌||◌, if◌then◌else◌, ℕ, ℤ, Bool, Option, None, Some, Ok, Err, Result, unsigned_abs}
 use Rattle.std.specs.IoError.{raw_os_error}
 use Rattle.std.specs.declared.io.Error.{Error}
@@ -8,16 +8,16 @@ use Rattle.connections.specs.declared.network.AcceptOutcome.TheVariants.{Nobody,
 use Rattle.sockets.specs.declared.socket.Socket.{Socket}
 use Rattle.sockets.specs.declared.loopback.Loopback.{Loopback}
 
--- an error number of the system, without its sign, or 0 if there is none
+-- a system error number, without its sign, or 0 if there is none
 abbrev pub number_in : Option ℤ → ℕ
 number_in None = 0
 number_in (Some code) = unsigned_abs code
 
--- the error's number on Linux
+-- the error number on Linux
 abbrev pub errno_of : Error → ℕ
 errno_of error = number_in (raw_os_error error)
 
--- no descriptor or memory is left for another connection: ENOMEM, ENFILE, EMFILE, ENOSPC, ENOBUFS
+-- there is no descriptor or memory left for another connection: ENOMEM, ENFILE, EMFILE, ENOSPC, ENOBUFS
 abbrev pub is_out_of_room : Error → Bool
 is_out_of_room error = errno_of error == 12 || errno_of error == 23 || errno_of error == 24 || errno_of error == 28 || errno_of error == 105
 
@@ -29,7 +29,7 @@ outcome_of error = if errno_of error == 11 then Nobody else (if is_out_of_room e
 abbrev pub has_no_ipv6 : Error → Bool
 has_no_ipv6 error = errno_of error == 97 || errno_of error == 99
 
--- The listeners of a port that is bound at 127.0.0.1, given the result of binding [::1]: both; or 127.0.0.1 alone, if the machine has no [::1]; otherwise the error.
+-- The listeners on a port that is bound at 127.0.0.1, given the result of binding [::1]: both; or only the one at 127.0.0.1, if the machine has no [::1]; otherwise the error.
 abbrev pub loopback_of : TcpListener → Result TcpListener Error → Result Loopback Error
 loopback_of ipv4 (Ok ipv6) = Ok (record { ipv4 = ipv4; ipv6 = Some ipv6 })
 loopback_of ipv4 (Err error) = if has_no_ipv6 error then Ok (record { ipv4 = ipv4; ipv6 = None }) else Err error

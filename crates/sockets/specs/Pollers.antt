@@ -28,22 +28,22 @@ abbrev pub other_address : Address → Address
 other_address Ipv4 = Ipv6
 other_address Ipv6 = Ipv4
 
--- the listeners of clients: at 127.0.0.1 and, if there is one, at [::1]
+-- the listeners for clients: at 127.0.0.1 and, if the machine has it, at [::1]
 abbrev pub clients_of : Poller → Loopback
 clients_of poller = poller.clients
 
--- the listener of orders, if there is one
+-- the listener for orders, if there is one
 abbrev pub orders_of : Poller → Option UnixListener
 orders_of poller = poller.orders
 
--- the socket is of the listener's kind: a client's comes through the port, an order's through the file next to the database
+-- the socket is of the kind that the listener accepts: a client connects through the port, an order through the socket file next to the database
 abbrev pub FitsListener : Listener → Socket → Type 0
 FitsListener listeners.Clients (lines.Client stream) = ⊤
 FitsListener listeners.Clients (lines.Order stream) = ⊥
 FitsListener listeners.Orders (lines.Client stream) = ⊥
 FitsListener listeners.Orders (lines.Order stream) = ⊤
 
--- a connection was accepted from this listener, and its socket is of the listener's kind
+-- a connection was accepted from the given listener, and its socket is of that listener's kind
 abbrev pub IsAtListener : Listener → AcceptOutcome Socket → Type 0
 IsAtListener listener (One accepted) = (accepted.listener ≡ listener) × FitsListener listener accepted.stream
 IsAtListener listener Nobody = ⊤
@@ -57,20 +57,20 @@ ComesByListener Nobody = ⊤
 ComesByListener NotNow = ⊤
 ComesByListener Full = ⊤
 
--- a connection may be pending, unless it is known that none is
+-- a connection may be pending, unless none is known to be
 abbrev pub is_known_waiting : Waiting → Bool
 is_known_waiting waiting.Nobody = false
 is_known_waiting waiting.Unknown = true
 is_known_waiting waiting.Somebody = true
 
--- what is known of a listener after it returned this outcome: none is pending; after a connection there may be another one; a full system tells us nothing
+-- what is known about a listener after it has returned the given outcome: no connection is pending; after a connection there may be another; a full system tells us nothing
 abbrev pub known_after : Waiting → AcceptOutcome Socket → Waiting
 known_after known (One accepted) = waiting.Unknown
 known_after known Nobody = waiting.Nobody
 known_after known NotNow = waiting.Unknown
 known_after known Full = known
 
--- the same is known of each listener
+-- the same is known about each listener
 abbrev pub known_everywhere : Waiting → Pending
 known_everywhere known = record { ipv4 = known; ipv6 = known; orders = known }
 
@@ -79,14 +79,14 @@ abbrev pub known_at : Pending → Address → Waiting
 known_at pending Ipv4 = pending.ipv4
 known_at pending Ipv6 = pending.ipv6
 
--- what is known after an event reported the listener with this token: 0 is the one at 127.0.0.1, 1 the one at [::1], any other the one for orders
+-- what is known after an event has been reported for the listener with the given token: 0 is the one at 127.0.0.1, 1 the one at [::1], and any other the one for orders
 abbrev pub reported : ℕ → Pending → Pending
 reported token pending =
     if token == 0 then record { ipv4 = waiting.Somebody; ipv6 = pending.ipv6; orders = pending.orders }
     else (if token == 1 then record { ipv4 = pending.ipv4; ipv6 = waiting.Somebody; orders = pending.orders }
     else record { ipv4 = pending.ipv4; ipv6 = pending.ipv6; orders = waiting.Somebody })
 
--- a connection may be pending at some listener
+-- a connection may be pending at a listener
 abbrev pub may_be_pending : Pending → Bool
 may_be_pending pending = is_known_waiting pending.ipv4 || is_known_waiting pending.ipv6 || is_known_waiting pending.orders
 
@@ -96,13 +96,13 @@ is_somebody waiting.Nobody = false
 is_somebody waiting.Unknown = false
 is_somebody waiting.Somebody = true
 
--- an event reported a connection at some listener
+-- an event reported a connection at a listener
 abbrev pub is_reported : Pending → Bool
 is_reported pending = is_somebody pending.ipv4 || is_somebody pending.ipv6 || is_somebody pending.orders
 
 abbrev pub has_pending : Poller → Bool
 has_pending poller = may_be_pending poller.pending
 
--- nothing is known of sockets: neither which connections were accepted and closed, nor how many calls failed, nor what the clock showed
+-- nothing is known about sockets: neither which connections were accepted and closed, nor how many calls failed, nor what the clock returned
 abbrev pub unknown : {L : Type 0} → NetworkEntry L
 unknown = record { came = None; left = None; failed = None; waits = None; events = None }

@@ -24,7 +24,7 @@ pub(crate) const EAFNOSUPPORT: u32 = 97;
 
 pub(crate) const EADDRNOTAVAIL: u32 = 99;
 
-/// Returns the error's number on Linux, or 0 for an error that doesn't come from the system.
+/// Returns the error's number on Linux, or 0 if the error doesn't come from the system.
 pub(crate) fn errno(error: &io::Error) -> u32
     ensures { result ≡ errno_of error.now }
 {

@@ -1,4 +1,4 @@
-//! The listeners on one port of this machine's loopback addresses.
+//! The listeners on one port, at this machine's loopback addresses.
 
 ghost use Rattle.std.specs.Prelude.{◌≡◌, Some, option_map};
 ghost use Rattle.sockets.specs.declared.loopback.Address.{Address};
@@ -36,8 +36,7 @@ impl Address {
     }
 }
 
-/// Returns whether binding [::1] failed because the machine has no such address, in which case no other program can bind it
-/// either.
+/// Returns whether binding [::1] failed because the machine has no such address, so that no other program can bind it either.
 ///
 /// Either the kernel has no IPv6 (EAFNOSUPPORT), or the loopback interface has no such address (EADDRNOTAVAIL). A service
 /// manager that denies IPv6 to this program alone also causes the first error, and then another program can bind the address;
@@ -49,7 +48,7 @@ fn has_no_ipv6(error: &io::Error) -> bool
 }
 
 impl Loopback {
-    /// Returns the listeners of a port that is bound at 127.0.0.1, given the result of binding [::1].
+    /// Returns the listeners on a port that is bound at 127.0.0.1, given the result of binding [::1].
     ///
     /// If the machine has no such address, there is only one listener. On any other error, returns that error, and the listener
     /// at 127.0.0.1 is closed.
@@ -66,10 +65,10 @@ impl Loopback {
         }
     }
 
-    /// Binds a port at both addresses. Fails if it is taken at either of them.
+    /// Binds a port at both addresses. Fails if the port is in use at either of them.
     ///
     /// A browser that opens `http://localhost` may try either address, and would send a clerk's code to any program that holds
-    /// the other one. A socket at [::1] accepts no connections over IPv4, so it needs no option.
+    /// the other one. A socket at [::1] accepts no IPv4 connections, so no socket option is needed.
     pub fn bind(net: &impl Net, port: u16) -> io::Result<Loopback> {
         let ipv4 = TcpListener::bind(net, SocketAddr::from((Ipv4Addr::LOCALHOST, port)))?;
         let ipv6 = TcpListener::bind(net, SocketAddr::from((Ipv6Addr::LOCALHOST, port)));

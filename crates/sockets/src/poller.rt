@@ -32,14 +32,14 @@ const IPV6: usize = 1;
 
 const ORDERS: usize = 2;
 
-/// Returns the token of the connection with this number; `None` if there are no more tokens.
+/// Returns the token of the connection with the given number; `None` if there are no more tokens.
 fn token_of(number: u64) -> Option<Token>
     ensures { IfSome result (λ token. token.0 ≡ number + 3) }
 {
     Some(Token(usize::try_from(number.checked_add(3)?).ok()?))
 }
 
-/// Returns the number of the connection with this token; `None` for the token of a listener.
+/// Returns the number of the connection with the given token; `None` for the token of a listener.
 fn number_of(token: Token) -> Option<u64>
     ensures some { IfSome result (λ number. token.0 ≡ number + 3) }
     ensures none { IfNone result (token.0 < 3) }
@@ -47,7 +47,7 @@ fn number_of(token: Token) -> Option<u64>
     (token.0 as u64).checked_sub(3)
 }
 
-/// What is known about pending connections at a listener: there is none until an event reports one; there may be some; or an
+/// What is known about pending connections at a listener: there are none until an event reports one; there may be one; or an
 /// event has reported one.
 #[derive(Clone, Copy)]
 pub enum Waiting {
@@ -67,7 +67,7 @@ impl Waiting {
         }
     }
 
-    /// Returns what is known after the listener returned this outcome.
+    /// Returns what is known after the listener has returned the given outcome.
     fn after(self, outcome: &AcceptOutcome<Socket>) -> Waiting
         ensures { result ≡ known_after self outcome.now }
     {
@@ -88,7 +88,7 @@ pub struct Pending {
 }
 
 impl Pending {
-    /// Returns a value in which this is known of every listener.
+    /// Returns a value in which the same is known about every listener.
     fn everywhere(waiting: Waiting) -> Pending
         ensures { result ≡ known_everywhere waiting }
     {
@@ -99,7 +99,7 @@ impl Pending {
         }
     }
 
-    /// Returns what is known about an address.
+    /// Returns what is known about the listener at an address.
     fn at(self, address: Address) -> Waiting
         ensures { result ≡ known_at self address }
     {
@@ -109,7 +109,7 @@ impl Pending {
         }
     }
 
-    /// Records what is known about an address.
+    /// Records what is known about the listener at an address.
     fn set(&mut self, address: Address, waiting: Waiting)
         ensures set { known_at self.new address ≡ waiting }
         ensures other { known_at self.new (other_address address) ≡ known_at self.old (other_address address) }
@@ -121,7 +121,7 @@ impl Pending {
         }
     }
 
-    /// Records that an event reported the listener with this token.
+    /// Records that an event was reported for the listener with the given token.
     fn report(&mut self, token: usize)
         ensures { self.new ≡ reported token self.old }
     {
@@ -191,7 +191,7 @@ fn watch_clients(poll: &Poll, clients: Loopback) -> io::Result<Loopback>
 }
 
 impl Poller {
-    /// Registers the listeners of clients and, if there is one, the listener of orders. No connection has been accepted yet.
+    /// Registers the listeners for clients and, if there is one, the listener for orders. No connection has been accepted yet.
     pub fn new(
         net: &impl Net,
         alloc: Global,
@@ -227,7 +227,7 @@ impl Poller {
         Ok(stream)
     }
 
-    /// Asks the listener of orders for the next one.
+    /// Asks the listener for orders for its next connection.
     fn order_pending(&self, number: u64) -> AcceptOutcome<Socket>
         ensures { IsAtListener Listener.Orders result }
     {
@@ -247,7 +247,7 @@ impl Poller {
         }
     }
 
-    /// Returns the next order, if one might be pending.
+    /// Returns the next connection for an order, if one might be pending.
     fn next_order(&mut self, number: u64) -> AcceptOutcome<Socket>
         ensures { IsAtListener Listener.Orders result }
     {
@@ -259,7 +259,7 @@ impl Poller {
         outcome
     }
 
-    /// Asks the listener at an address for its next client.
+    /// Asks the listener at the given address for its next client.
     fn client_pending(&self, address: Address, number: u64) -> AcceptOutcome<Socket>
         ensures { IsAtListener Listener.Clients result }
     {
@@ -307,7 +307,7 @@ impl Poller {
         }
     }
 
-    /// Returns the next order; or, if none is pending and `clients_too` is set, the next client.
+    /// Returns the next order; or the next client, if no order is pending and `clients_too` is set.
     fn next_at(&mut self, number: u64, clients_too: bool) -> AcceptOutcome<Socket>
         ensures wanted { IsWanted clients_too result }
         ensures by_door { ComesByListener result }
@@ -318,8 +318,8 @@ impl Poller {
         }
     }
 
-    /// Registers the listeners again, so that the next wait reports each listener with a pending connection, even one reported
-    /// before.
+    /// Registers the listeners again, so that the next wait reports each listener with a pending connection, even if it was
+    /// reported before.
     fn watch_anew(&mut self) -> io::Result<()>
         ensures clients { clients_of self.new ≡ clients_of self.old }
         ensures orders { orders_of self.new ≡ orders_of self.old }
@@ -335,8 +335,9 @@ impl Poller {
         Ok(())
     }
 
-    /// Returns the outcome of an attempt to accept, but `Nobody` in place of `Full` unless an event has reported a pending
-    /// connection. The system reports `Full` even if no connection is pending; the next wait reports whether one is.
+    /// Returns the outcome of an attempt to accept a connection, but `Nobody` instead of `Full` unless an event has reported a
+    /// pending connection. The system reports `Full` even if no connection is pending; the next wait reports whether there is
+    /// one.
     fn noted(&mut self, outcome: AcceptOutcome<Socket>) -> AcceptOutcome<Socket>
         ensures same { (result ≡ outcome) ⊎ ((outcome ≡ AcceptOutcome.Full) × (result ≡ AcceptOutcome.Nobody)) }
         ensures seen { is_reported self.old.pending ≡ true → result ≡ outcome }
@@ -375,7 +376,7 @@ impl Poller {
         None
     }
 
-    /// Accepts the next pending connection and assigns it this number.
+    /// Accepts the next pending connection and assigns it the given number.
     pub(crate) fn accept(&mut self, number: u64, clients_too: bool) -> AcceptOutcome<Socket>
         ensures { IsWanted clients_too result }
     {

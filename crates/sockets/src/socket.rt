@@ -8,7 +8,7 @@ use std::io;
 use std::io::{ErrorKind, Read, Write};
 use streams::Broken;
 
-/// The socket of a client's connection, or of an order's.
+/// The socket of a connection, from a client or for an order.
 #[derive(Drop)]
 pub enum Socket {
     Client(TcpStream),

@@ -1,4 +1,4 @@
-//! The network over sockets.
+//! A network of sockets.
 
 ghost use Rattle.std.specs.Prelude.{◌≡◌, None};
 ghost use Rattle.connections.specs.Tables.{with_removed};

@@ -44,7 +44,7 @@ pub one_kept_state : (s t : OfficeState) (st : State) → IsTrue st.is_open → 
 one_kept_state s t st is_open first second =
     one_state st.now s t (record { is = first.is; office = (first.rests is_open).office }) (record { is = second.is; office = (second.rests is_open).office })
 
--- the result of a read with the cache is true of the state that the store keeps
+-- the result of a read with the cache is true of the state the store keeps
 pub loads_known : {X : Type 0} {P : OfficeState → X → Type 0} {old new : State} {r : Result X Fault} (before : Vec CachedBatch) → (HasCleanDisk old → IsTrue old.is_open → Remembers old before.items)
     → LoadsAt old new r (λ s x. AreKnown s before.items → P s x) → LoadsAt old new r P
 loads_known {X = X} {P = P} {old = old} {new = new} {r = Ok x} before tied loads =
@@ -90,7 +90,7 @@ tied_changed change old new (Some before) (Some after) forgot tied opened leads 
       known = forgot it.state (receipt_entry change.receipt) it.known;
     }
 
--- the state that a store keeps after a read is the one that it kept before
+-- the state a store keeps after a read is the one it kept before
 pub kept_before : (old new : State) → ((trees : Trees) → IsTrue old.is_open → old.may_leave trees → trees ≡ old.committed.trees) → (IsTrue old.is_open → RestsAt old.now old) → OnlyReads old new
     → HasCleanDisk new → IsTrue new.is_open → (s : OfficeState) → IsAt s new → IsAt s old
 kept_before old new settled rests reads clean is_open s at =

@@ -42,7 +42,7 @@ all_added rows c =
     (added_all Candidate (map (λ x. row_of_candidate (candidate_entry x)) rows.candidates.items)
     (added_all Ward (map (λ w. row_of_ward (ward_entry w)) rows.wards.items) c)))))))))
 
--- adding these rows to an empty office results in the office with these rows
+-- adding rows to an empty office yields the office with those rows
 pub whole_put : (rows : Rows) → SameContents (all_added rows (tables_of empty_office)) (tables_with (state_of rows) (tabulated rows))
 unfolding added_all tables_of tables_with tabulation_of
 whole_put rows Office = IsPermutation-refl _
@@ -59,24 +59,24 @@ whole_put rows Third = rows_alone third_entry row_of_third rows.thirds.items
 
 -- ---- the state of a copy
 
--- the tables of a state with the tabulation of its counts are the tables of the state
+-- a state's tables with the tabulation of its counts are the tables of that state
 pub are_tables : (s : OfficeState) (t : TabulationEntries) → IsTabulationOf t s → tables_with s t ≡ tables_of s
 unfolding tables_of
 are_tables s t is = ap (tables_with s) is
 
--- a connection to the copy that rests at these tables keeps that state
+-- a connection to the copy keeps the copied state if it rests at the copied tables
 pub copy_is_at : (s : OfficeState) (t : TabulationEntries) (st : State) → IsTabulatedAs s t → ((trees : Trees) → IsTrue st.is_open → st.may_leave trees → trees ≡ st.committed.trees)
     → Rests (tables_with s t) st → IsAt s st
 copy_is_at s t st is settled rests = rests_is_at s st settled is.0 (subst (λ (c : Contents). Rests c st) (are_tables s t is.1) rests)
 
--- a stop leaves either nothing of the copy or all of it
+-- a stop leaves either none of the copy or all of it
 pub copy_stops : (s : OfficeState) (t : TabulationEntries) (old new : State) → IsTabulationOf t s → HasCleanDisk new → Survives old new (Stores (tables_with s t)) → LeavesNoneOrAll s old new
 copy_stops s t old new is clean survives trees may = elim (survives.crash clean trees may) [
   | inl was ↦ inl was
   | inr made ↦ inr (subst (λ (c : Contents). Stores c trees) (are_tables s t is) made)
 ]
 
--- if a stop leaves all of the copy, its tables are those of some state
+-- if a stop leaves all of the copy, its tables are those of a state
 pub copy_whole : (s : OfficeState) (t : TabulationEntries) (old new : State) → IsTabulatedAs s t → HasCleanDisk new → Survives old new (Stores (tables_with s t))
     → (trees : Trees) → new.may_leave trees
     → old.may_leave trees ⊎ ((x : OfficeState) × StoresState x trees)
@@ -85,6 +85,6 @@ copy_whole s t old new is clean survives trees may = elim (copy_stops s t old ne
   | inr made ↦ inr (s, record { is = is.0; stores = made })
 ]
 
--- the state that was read is the one that the stop left
+-- the state that was read is the one the stop left
 pub read_left : (s x : OfficeState) (db : Database) → IsLeftAt s db → HoldsState db x → x ≡ s
 read_left s x db left holds = one_state db x s holds (left_holds s db left)

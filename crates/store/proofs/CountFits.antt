@@ -95,7 +95,7 @@ mark_few (Exclude d) c other few = either_few (d == c) 4 other (omega arith) few
 mark_few (ExcludeLast d) c other few = either_few (d == c) 5 other (omega arith) few
 
 module _ (ward : ℕ) (number : ward < 2 ^ 32) where
-  -- the row of a figure with small numbers, at a stage, can be read
+  -- the row of a stage's figure with small numbers can be read
   figure_fits : (stage : ℕ) → stage < 2 ^ 32 → (f : Figure) → f.candidate < 2 ^ 32 → f.mark < 2 ^ 32 → IsFigureRow (row_of_figure (figure_at ward stage f))
   figure_fits stage few f candidate mark = ((ward, number, refl), (stage, few, refl), (f.candidate, candidate, refl), (f.units, refl), (f.mark, mark, refl))
 

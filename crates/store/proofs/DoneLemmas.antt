@@ -1,4 +1,4 @@
--- How many stages of a count can be done in a state.
+-- A bound on the number of stages done in the counts of a state.
 use Rattle.std.proofs.Common.{◌≡◌, ◌<◌, ◌≤◌, ◌+◌, ◌*◌, ◌^◌, List, [], ◌∷◌, Bool, true, false, cond, length, Some, refl, sym, ap, ◌∙◌, arith, Less, Equal, nat_cmp}
 use Rattle.std.specs.Ordering.{is_eq, ordering_reverse}
 use Rattle.std.specs.Cmp.{nat_cmp_is}
@@ -18,12 +18,12 @@ use Rattle.register.specs.Elections.{election_of, has_count, contest_of, stages_
 use Rattle.register.specs.StateConditions.{all_counted, IsState}
 use Rattle.register.proofs.ContestLemmas.{fair_contest}
 
--- ---- each ward is the one found by its number
+-- ---- looking up a ward by its number finds that ward
 
 apart : (x w : WardEntry) → ward_cmp x w ≡ Less → is_eq (nat_cmp w.number x.number) ≡ false
 apart x w below = ap is_eq (nat_cmp_total.antisymm w.number x.number ∙ ap ordering_reverse below)
 
--- wards that are found in a list are still found after a lower ward is added in front
+-- wards found in a list are still found after a ward with a lower number is prepended
 still_there : (x : WardEntry) (xs ys : List WardEntry) → AllByRecursion (λ y. ward_cmp x y ≡ Less) ys → AllByRecursion (λ w. entry_at (ward_compared w.number) xs ≡ Some w) ys
     → AllByRecursion (λ w. entry_at (ward_compared w.number) (x ∷ xs) ≡ Some w) ys
 still_there x xs [] below all = tt
@@ -35,7 +35,7 @@ wards_there (x ∷ xs) up = (rw (sym (nat_cmp_is x.number x.number Equal refl)) 
 
 -- ---- the stages of a ward's count
 
--- a correct count has few stages; if there is no count, no stage is done
+-- a correct count has few stages; if there is no count, no stage has been done
 done_few : (s : OfficeState) → IsState s → (w : WardEntry) → ward_at s w.number ≡ Some w → is_counted_right (election_of s w) ≡ true → w.done < 2 ^ 32
 done_few s is w there right = go (is_in_count (election_of s w)) refl right
   where
@@ -58,7 +58,7 @@ each_few : (s : OfficeState) → IsState s → (ws : List WardEntry) → AllByRe
 each_few s is [] there right = tt
 each_few s is (w ∷ ws) there right = let both = and_parts _ _ right in (done_few s is w there.0 both.0, each_few s is ws there.1 both.1)
 
--- the stages done in the wards of a state are numbers that a column can hold
+-- the number of stages done in each ward of a state fits in a column
 pub wards_few : (s : OfficeState) → IsState s → AllByRecursion (λ (w : WardEntry). w.done < 2 ^ 32) s.wards
 unfolding all_counted
 wards_few s is = each_few s is s.wards (wards_there s.wards is.rise.wards) (and_parts _ _ is.counted).1

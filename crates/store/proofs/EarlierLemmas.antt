@@ -25,7 +25,7 @@ keyed_before s batch clerk (suc n) above keyed =
 
 -- ---- what a clerk sees of earlier keyings
 
--- filtering by a weaker test first doesn't change the result of a filter
+-- filtering by a weaker test first doesn't change the result of filtering
 filter_both : {X : Type 0} (p q : X → Bool) → ((x : X) → p x ≡ true → q x ≡ true) → (xs : List X) → filter p (filter q xs) ≡ filter p xs
 filter_both p q stronger [] = refl
 filter_both {X} p q stronger (x ∷ xs) = go (q x) refl (p x) refl (filter_both p q stronger xs)
@@ -46,7 +46,7 @@ module _ (s : OfficeState) (clerk : ℕ) where
       ap (λ (papers : List KeyedEntry). cond (is_keyed papers) (Some (record { round = suc n; papers = papers })) (last_keyed (seen_by clerk s) batch clerk n)) (own_seen batch (suc n))
       ∙ ap (cond (is_keyed (keying_of s batch (suc n) clerk)) (Some (record { round = suc n; papers = keying_of s batch (suc n) clerk }))) (last_seen batch n)
 
-  -- a clerk's own keying of an earlier round depends only on what the clerk sees
+  -- a clerk's own keying from an earlier round depends only on what the clerk sees
   pub earlier_seen : (batch : ℕ) → earlier_at (seen_by clerk s) clerk batch ≡ earlier_at s clerk batch
   earlier_seen batch = go (batch_at s batch)
     where

@@ -1,4 +1,4 @@
--- What is read for the count of a ward is what the state contains.
+-- The data read for the count of a ward is that of the state.
 use Rattle.std.proofs.Common.{◌≡◌, ◌≤◌, ◌==◌, ◌&&◌, not, ℕ, Bool, List, map, Option, Some, None, MatchOption, IfSome, IsSome, option_map, true, false, refl, sym, ap, subst, ◌∙◌, true≢false, arith}
 use Rattle.std.proofs.Math.Bool.{and-false}
 use Rattle.std.proofs.lemmas.Bool.{and_parts, and_from, ne_eqb}
@@ -28,7 +28,7 @@ pub part_polled : (s : OfficeState) (ward : Option WardEntry) → polled_part (o
 part_polled s None = refl
 part_polled s (Some w) = refl
 
--- the input with what is due, for a ward that may not exist
+-- the input with what the count requires next, for a ward that may not exist
 pub part_counted : (s : OfficeState) (ward : Option WardEntry) → counted_part (option_map (election_of s) ward) ≡ record empty_input { ward = ward; due = due_for s ward; elected = elected_for s ward }
 part_counted s None = refl
 part_counted s (Some w) = refl
@@ -46,7 +46,7 @@ ward_is_sound s ward w is found =
     let few = seats_and_papers_are_few s w is.in_range is.keyed is.rise there in
     record { some_seats = few.0; few_seats = few.1 }
 
--- an election that was found meets the conditions on its number of seats
+-- an election that has been found meets the conditions on its number of seats
 pub sound_polled : {R : Type 0} (s : OfficeState) (ward : ℕ) (found : Option Election) → IsState s → IsFoundFor found (option_map (election_of s) (ward_at s ward))
     → MatchOption found R (λ e. 1 ≤ e.ward.seats → e.ward.seats ≤ max_seats → R) → R
 sound_polled s ward None is there r = r
@@ -61,17 +61,17 @@ sound_polled {R = R} s ward (Some e) is there r = by_ward (ward_at s ward) refl 
 
 -- ---- the count
 
--- a ward that is found under some number is also found under its own
+-- a ward found under any number is also found under its own
 pub ward_there : (s : OfficeState) (ward : ℕ) (w : WardEntry) → ward_at s ward ≡ Some w → ward_at s w.number ≡ Some w
 ward_there s ward w found = subst (λ (n : ℕ). ward_at s n ≡ Some w) (found_number (λ (x : WardEntry). x.number) s.wards ward w found) found
 
--- whether the election is contested, judged by the candidates found with the ward
+-- whether the election is contested, according to the candidates found with the ward
 pub contested_told : (s : OfficeState) (found : CountedWard) (candidates : List Candidate) (told : Bool) → candidates ≡ found.candidates.items
     → WasFound s found → told ≡ is_contested (ward_entry found.ward) (map candidate_entry candidates)
     → has_count (election_in s found) ≡ told
 contested_told s found candidates told same there is = ap (is_contested (ward_entry found.ward)) (sym (ap (map candidate_entry) same ∙ there.1)) ∙ sym is
 
--- if a value was found, and a property holds of any value found, it holds of this value
+-- if a value was found and a property holds for any value found, it holds for this one
 pub some_found : {X : Type 0} {P : X → Type 0} (found : Option X) → IsSome found → IfSome found P → (x : X) × (found ≡ Some x) × P x
 some_found None some holds = absurd (true≢false (sym some))
 some_found (Some x) some holds = (x, refl, holds)
@@ -80,7 +80,7 @@ some_found (Some x) some holds = (x, refl, holds)
 pub stages_contested : (e : ElectionEntry) → has_stages e ≡ true → has_count e ≡ true
 stages_contested e begun = (and_parts (has_count e) (not (e.ward.done == 0)) begun).0
 
--- if the ward isn't contested, or no stage is done, there is no count with a stage done
+-- if the ward isn't contested, or no stage has been done, there is no count with a stage done
 pub uncontested_bare : (e : ElectionEntry) → has_count e ≡ false → has_stages e ≡ false
 uncontested_bare e none = ap (λ b. b && not (e.ward.done == 0)) none
 
@@ -90,7 +90,7 @@ fresh_bare e fresh = ap (λ n. has_count e && not (n == 0)) fresh ∙ and-false 
 pub begun_stages : (e : ElectionEntry) → has_count e ≡ true → (e.ward.done ≡ 0 → ⊥) → has_stages e ≡ true
 begun_stages e contested some = and_from _ _ contested (ap not (ne_eqb e.ward.done 0 some))
 
--- a count that was found for an election that has a stage done
+-- the count found for an election with a stage done
 pub book_found : (e : ElectionEntry) (found : Option Count) → has_stages e ≡ true → IsCount e found → IsCountIfBegun e found
 book_found e found begun is = subst (IsCountIfBegun e) (sym is.1) (begun, is.2)
 
@@ -124,7 +124,7 @@ bare_counted s ward found is none =
     let counted : IsCounted e (Some found) = (found, refl, record { ward_is = refl; candidates_are = is.1.1; count_is = held }) in
     subst (λ (o : Option WardEntry). IsCountedFor (option_map (election_of s) o) (Some found)) (sym is.0) counted
 
--- the count that was found is the one that a command sees
+-- the count found is the one that a command sees
 pub held_shown : (e : ElectionEntry) (found : Option Count) → IsCountIfContested e found → has_count e ≡ true → IsCount e found
 held_shown e None none contested = absurd (true≢false (sym contested ∙ none))
 held_shown e (Some count) is contested = (count, refl, is.1)
@@ -145,7 +145,7 @@ shown_for s ward shown is = λ w at. subst (λ (o : Option WardEntry). IsCountIf
 pub in_count_contested : (e : ElectionEntry) → is_in_count e ≡ true → has_count e ≡ true
 in_count_contested e counted = (and_parts (is_counted e.ward.phase) (has_count e) counted).1
 
--- the count that was found for an election in count
+-- the count found for an election in count
 count_in_count : (e : ElectionEntry) (found : Option Count) → is_in_count e ≡ true → IsCountIfContested e found → IsCountIn e found
 count_in_count e None counted none = absurd (true≢false (sym (in_count_contested e counted) ∙ none))
 count_in_count e (Some count) counted is = (counted, is.1)
@@ -163,7 +163,7 @@ sheet_of e sheet counted is rejected = (sheet, refl, record { counted_is = ward_
 pub begin_sheet : (e : ElectionEntry) (found : Option WardSheet) → is_in_count e ≡ true → IsBegun e found → IsSheet e found
 begin_sheet e found counted is = subst (IsSheet e) (sym is.1) (sheet_of e is.0 counted is.2 is.3)
 
--- whether the election is in count, judged by the candidates found with the ward
+-- whether the election is in count, according to the candidates found with the ward
 pub in_count_told : (s : OfficeState) (found : CountedWard) (candidates : List Candidate) (told : Bool) → candidates ≡ found.candidates.items → WasFound s found
     → told ≡ (is_counted (ward_entry found.ward).phase && is_contested (ward_entry found.ward) (map candidate_entry candidates)) → is_in_count (election_in s found) ≡ told
 in_count_told s found candidates told same there is =

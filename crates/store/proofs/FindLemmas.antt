@@ -1,4 +1,4 @@
--- The row with a key is that of the state's entry with the same key.
+-- The row with a given key is that of the state's entry with that key.
 use Rattle.std.proofs.Common.{◌≡◌, ◌==◌, ◌&&◌, map, ℕ, pos, List, [], ◌∷◌, true, filter, Some, option_map, IfSome, refl, sym, ap, ◌∙◌, nat_cmp, Ordering, Less, Equal, Greater}
 use Rattle.std.specs.Option.{option_to_list}
 use Rattle.std.specs.Ordering.{ordering_then, is_eq}
@@ -128,7 +128,7 @@ keying_listed s is batch round clerk rows finds =
     listed_as Keying row_of_keyed (begins_with (Int (pos batch) ∷ Int (pos round) ∷ Int (pos clerk) ∷ [])) (λ k. (k.batch == batch) && ((k.round == round) && (k.clerk == clerk)))
     (λ k. same_three_numbers batch round clerk k.batch k.round k.clerk) s.keyings (tables_rise s is Keying refl) rows finds.same finds.sorted
 
--- how a keyed paper compares with a batch, a round, a clerk and a paper's number
+-- how a keyed paper compares with a given batch, round, clerk and paper number
 abbrev pub keyed_compared : ℕ → ℕ → ℕ → ℕ → KeyedEntry → Ordering
 keyed_compared batch round clerk paper k = ordering_then (nat_cmp batch k.batch) (ordering_then (nat_cmp round k.round) (ordering_then (nat_cmp clerk k.clerk) (nat_cmp paper k.paper)))
 

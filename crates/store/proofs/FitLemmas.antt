@@ -154,7 +154,7 @@ pub candidates_fit : (s : OfficeState) → IsState s → AllByRecursion IsCandid
 unfolding tables_of tables_with
 candidates_fit s is = all_passed is_candidate IsCandidateRow row_of_candidate candidate_fits s.candidates (and_parts _ _ (and_parts _ _ is.in_range).1).0
 
--- the batches are in range, and so are all tables after them
+-- the batches are in range, and so are the entries of all later tables
 beyond_candidates : (s : OfficeState) → IsState s
     → (list_all is_batch s.batches && (list_all is_third s.thirds &&
     (list_all is_keyed_paper s.keyings && (list_all is_judged_paper s.verdicts && (list_all is_lot s.lots && list_all is_receipt s.receipts))))) ≡ true

@@ -63,7 +63,7 @@ changed_same : (change : Change) (s : OfficeState) → IsTabulated s change → 
 unfolding tables_of
 changed_same change s tabulated = same_tables (with_change (change_entry change) s) _ _ tabulated
 
--- a connection that rests at these tables keeps the state after the change
+-- a connection keeps the state after the change if it rests at the changed tables
 pub if_change_is_at : {X E : Type 0} (r : Result X E) (change : Change) (s : OfficeState) (st : State) → ((trees : Trees) → IsTrue st.is_open → st.may_leave trees → trees ≡ st.committed.trees)
     → IsTabulated s change → IsState (with_change (change_entry change) s) → OnOk r (Rests (changed_tables change s) st) → OnOk r (IsAt (with_change (change_entry change) s) st)
 if_change_is_at (Ok x) change s st settled tabulated is rests = rests_is_at (with_change (change_entry change) s) st settled is (rests_same _ _ st (changed_same change s tabulated) rests)
@@ -86,13 +86,13 @@ change_leaves change s old new honest at tabulated after survives trees may = el
   | inr made ↦ (with_change (change_entry change) s, inr refl, record { is = after; stores = stores_same _ _ trees (changed_same change s tabulated) made })
 ]
 
--- a connection that has only read a database that contains a state keeps that state
+-- a connection that has only read from a database with a given state keeps that state
 pub opened_is_at : (db : Database) (old new : State) → ((trees : Trees) → IsTrue new.is_open → new.may_leave trees → trees ≡ new.committed.trees)
     → HasCleanDisk new → IsTrue new.is_open → OnlyReads old new → RestsAt db old → (s : OfficeState) × HoldsState db s → (s : OfficeState) × HoldsState db s × IsAt s new
 opened_is_at db old new settled honest is_open reads at found =
     (found.0, found.1, rests_is_at found.0 new settled found.1.is (rests_from db new (tables_of found.0) found.1.office (reads.rests honest is_open db at)))
 
--- ---- how each call changes the connection
+-- ---- the effect of each call on the connection
 
 pub survives_connection : (old new : State) (P : Trees → Type 0) → Survives old new P → KeepsConnection old new
 survives_connection old new P h = record { limit = h.limit; counts = h.counts; closes = h.closes }

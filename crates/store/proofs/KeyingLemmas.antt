@@ -41,7 +41,7 @@ round_among s b (suc n) m rounds low high = elim (cases_eq m (suc n)) [
 
 -- ---- clerks
 
--- if all elements of a list pass a test after one is inserted, the inserted element passes it, and so do the others
+-- if all elements of a list pass a test after one has been inserted, the inserted element passes it, and so do the others
 put_all : {X : Type 0} (cmp : X → X → Ordering) (p : X → Bool) (x : X) (ys : List X) → list_all p (put cmp x ys) ≡ true → (p x ≡ true) × (list_all p ys ≡ true)
 put_all cmp p x [] all = and_parts _ _ all
 put_all {X} cmp p x (y ∷ ys) all = go (is_lt (cmp x y)) all (put_all cmp p x ys)
@@ -51,7 +51,7 @@ put_all {X} cmp p x (y ∷ ys) all = go (is_lt (cmp x y)) all (put_all cmp p x y
     go true all later = and_parts _ _ all
     go false all later = let both = and_parts _ _ all in let others = later both.1 in (others.0, and_from _ _ both.0 others.1)
 
--- a test that all clerks of a batch pass is passed by each of them
+-- if all clerks of a batch pass a test, each of them does
 each_clerk : (p : ℕ → Bool) (b : BatchEntry) (third : Option ThirdEntry) (clerk : ℕ) → list_all p (clerks b third) ≡ true → is_its_clerk clerk b third ≡ true → p clerk ≡ true
 each_clerk p b third clerk all its = go third all its
   where
@@ -73,7 +73,7 @@ each_clerk p b third clerk all its = go third all its
           | inr other ↦ elim (or_cases _ _ other) [ inl second ↦ is_second both.1 second | inr third ↦ ap p (eqb-true clerk t.clerk third) ∙ both.0 ]
         ]
 
--- a keying is whole, if it exists
+-- a keying is complete, if it exists
 abbrev whole_if_there : ℕ → List KeyedEntry → Bool
 whole_if_there size keying = not (is_keyed keying) || is_whole size keying
 
@@ -87,7 +87,7 @@ there_whole size f (c ∷ cs) all = go (f c) all (there_whole size f cs)
     go [] all later = later all
     go (k ∷ ks) all later = let both = and_parts _ _ all in and_from _ _ both.0 (later both.1)
 
--- the keying of a round by one of the batch's clerks is whole, if it exists
+-- the keying of a round by one of the batch's clerks is complete, if it exists
 keying_whole : (s : OfficeState) (b : BatchEntry) (round clerk : ℕ) (k : KeyedEntry) (ks : List KeyedEntry) → keying_of s b.number round clerk ≡ k ∷ ks
     → is_its_clerk clerk b (third_at s b.number) ≡ true → is_round_of s b round ≡ true
     → is_whole b.size (k ∷ ks) ≡ true
@@ -117,7 +117,7 @@ unfolding is_keyed_paper
 round_low k fine = leb-true 1 k.round (and_parts _ _ (and_parts _ _ (and_parts _ _ fine).1).0).0
 
 module _ (s : OfficeState) (is : IsState s) (batch round clerk : ℕ) where
-  -- if a keying exists, its batch exists, and it has each of the batch's papers
+  -- if a keying exists, so does its batch, and the keying has each of the batch's papers
   pub there_whole_of : (k : KeyedEntry) (ks : List KeyedEntry) → keying_of s batch round clerk ≡ k ∷ ks → (b : BatchEntry) × (batch_at s batch ≡ Some b) × (is_whole b.size (k ∷ ks) ≡ true)
   there_whole_of k ks there =
       let own = has_numbers batch round clerk k (head_passes (is_paper_of batch round clerk) k ks s.keyings there) in
@@ -136,15 +136,15 @@ module _ (s : OfficeState) (is : IsState s) (batch round clerk : ℕ) where
           ap (λ n. keying_of s n k.round k.clerk) (sym number ∙ own.batch_is) ∙ ap (λ n. keying_of s batch n k.clerk) own.round_is ∙ ap (keying_of s batch round) own.clerk_is ∙ there in
           (b, ap (batch_at s) (sym own.batch_is) ∙ found, keying_whole s b k.round k.clerk k ks same (and_parts _ _ parts.1).0 of_round)
 
-  -- the first paper of a keying has the number 1
+  -- the first paper of a keying has number 1
   starts_at_one : (k : KeyedEntry) (ks : List KeyedEntry) → keying_of s batch round clerk ≡ k ∷ ks → k.paper ≡ 1
   starts_at_one k ks there = let it = there_whole_of k ks there in first_of_whole it.0.size k ks it.2
 
-  -- a paper with these numbers is found by them
+  -- a paper with the given numbers is found by those numbers
   found_by_numbers : (k : KeyedEntry) → is_paper_of batch round clerk k ≡ true → k.paper ≡ 1 → is_eq (keyed_compared batch round clerk 1 k) ≡ true
   found_by_numbers k own first = grind (arith, nat_tests)
 
-  -- a paper that is found by these numbers belongs to this keying
+  -- a paper found by the given numbers belongs to the keying
   of_the_keying : (k : KeyedEntry) → is_eq (keyed_compared batch round clerk 1 k) ≡ true → is_paper_of batch round clerk k ≡ true
   of_the_keying k found = grind (arith, nat_tests)
 

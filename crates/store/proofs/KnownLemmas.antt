@@ -19,7 +19,7 @@ use Rattle.store.proofs.TallyLemmas.{one_there, open_there, more_tally}
 
 -- ---- the batches of a ward
 
--- the overviews in the cache of a ward's batches, if the cache has every batch
+-- the cached overviews of a ward's batches, if the cache has every batch
 pub views_told : (s : OfficeState) (ward : ℕ) (ks : List CachedBatch) → KnowsAll s ks → views_in ks ward ≡ views_of s (batches_of s ward)
 views_told s ward ks all = each ks s.batches all
   where
@@ -74,7 +74,7 @@ tally_viewed s b v is = subst (λ (x : BatchView). IsTally s (b ∷ []) (tally_a
     go false one true two = whole Differing false true (stands false true one two) one two refl refl refl
     go false one false two = whole Waiting false false (stands false false one two) one two refl refl refl
 
--- the tally of several batches and one more
+-- the tally of several batches and another
 pub tally_next : (s : OfficeState) (bs : List BatchEntry) (os : List BatchOverview) (k : ℕ) (o : BatchOverview) (some one sum : Tally) → map batch_view os ≡ views_of s bs → k < length os
     → o ≡ get_or os k o
     → IsTally s (take k bs) some → one ≡ tally_at o.standing o.doubtful_open

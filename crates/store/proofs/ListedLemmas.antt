@@ -20,7 +20,7 @@ use Rattle.store.specs.Openings.{has_entries}
 use Rattle.store.specs.Listings.{BeginsFirst, ListsAt, TellsStrange}
 use Rattle.store.proofs.TellLemmas.{told_strange}
 
--- all entries of one of the first tables were listed
+-- all entries of one of the first tables have been listed
 pub entries_listed : {V : Type 0} {old new : State} {rows : List Row} (n : ℕ) (t : Table) (v : V) → place_of t < n
     → (HasCleanDisk new → (db : Database) → BeginsTo t db.schema → RestsAt db old → ListsEntries t db rows)
     → (HasCleanDisk new → IsTrue new.is_open) → OnlyReads old new → new.in_transaction ≡ false → ListsAt old new (Ok v) (λ db. BeginsFirst n db.schema)
@@ -61,7 +61,7 @@ lists_as one told = record {
   outside = one.outside;
 }
 
--- the same for a narrower kind of database
+-- the same statement for a narrower class of databases
 pub lists_of : {X : Type 0} {K L : Database → Type 0} {P : Database → X → Type 0} {G H : Database → Fault → Type 0} {old new : State} {r : Result X Fault}
     → ((db : Database) → L db → K db) → ((db : Database) (f : Fault) → G db f → H db f) → ListsAt old new r K P G → ListsAt old new r L P H
 lists_of {r = Ok x} narrow more one = record {
@@ -106,7 +106,7 @@ lists_failed {G = G} {old = old} {new = new} {r = Err e} is failed = record {
   outside = failed.outside;
 }
 
--- the fault of a listing that follows another, passed on
+-- a fault in a listing that follows another, passed on
 pub lists_cut : {X Y Z : Type 0} {K : Database → Type 0} {P : Database → X → Type 0} {Q : Database → Y → Type 0} {R : Database → Z → Type 0} {G : Database
     → Fault → Type 0} {old mid new : State} {x : X} {f : Fault} {r : Result Z Fault}
     → IsErrAnd r (λ e. e ≡ f) → ListsAt old mid (Ok x) K P G → ListsAt mid new (Err f) K Q G → ListsAt old new r K R G

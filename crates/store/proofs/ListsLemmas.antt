@@ -1,4 +1,4 @@
--- The entries that were read, table by table.
+-- The entries that are read, table by table.
 use Rattle.std.proofs.Common.{List, [], map, refl, sym, subst, true≢false, ◌≡◌, true, arith, Ordering}
 use Rattle.std.specs.List.Sorted.{IsStrictlySortedBy}
 use Rattle.sqlite.specs.Order.{Row}
@@ -97,11 +97,11 @@ lists_counted db s t bundles figures first placed shown Vote has low = subst (Li
 lists_counted db s t bundles figures first placed shown Third has low = absurd (omega (arith, low))
 lists_counted db s t bundles figures first placed shown Office has low = absurd (true≢false (sym has))
 
--- maps with the third clerks that were read
+-- those maps with the third clerks that were read
 abbrev with_thirds : List ThirdClerk → OfficeState → OfficeState
 with_thirds thirds s = record s { thirds = map third_entry thirds }
 
--- these tables, and the table of third clerks
+-- the tables listed so far, and that of third clerks
 pub lists_maps : (db : Database) (s : OfficeState) (t : TabulationEntries) (thirds : List ThirdClerk) → ListsFirst 10 db s t
     → ListsEntries Third db (map (λ (x : ThirdClerk). row_of_third (third_entry x)) thirds) → ListsMaps db (with_thirds thirds s) t
 unfolding tables_with

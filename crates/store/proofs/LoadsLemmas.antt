@@ -26,7 +26,7 @@ use Rattle.store.proofs.RowLemmas.{if_entry_told, if_entries_told}
 
 -- ---- one query
 
--- a query for the entry with a key, if the row with that key is the row of the state's entry
+-- a query for the entry with a given key, if the row with that key is that of the state's entry
 pub loads_entry : {V X : Type 0} {old new : State} {r : Result (Option V) Fault} {kinds : Bool} (t : Table) (test : Row → Bool) (IsRow : Row → Type 0)
     (entry : V → X) (row : X → Row) (back : Row → X) → ((x : X) → back (row x) ≡ x) → (there : OfficeState → Option X)
     → ((s : OfficeState) → IsState s → filter test (tables_of s t) ≡ option_to_list (option_map row (there s))) → ((s : OfficeState) → IsState s → IfSome (option_map row (there s)) IsRow)
@@ -69,7 +69,7 @@ pub loads_as : {X Y : Type 0} {P : OfficeState → X → Type 0} {Q : OfficeStat
     → ((s : OfficeState) → IsState s → P s x → Q s y) → LoadsAt old new (Ok y) Q
 loads_as one told = record { shows = λ clean s at. told s at.is (one.shows clean s at); cause = λ clean s at. tt; opens = one.opens; reads = one.reads; keeps = one.keeps }
 
--- the same for a read that may have failed
+-- the same statement for a read that may have failed
 pub loads_told : {X : Type 0} {P Q : OfficeState → X → Type 0} {old new : State} {r : Result X Fault} → LoadsAt old new r P → ((s : OfficeState) (x : X) → P s x → Q s x) → LoadsAt old new r Q
 loads_told {r = Ok x} one told = record { shows = λ clean s at. told s x (one.shows clean s at); cause = λ clean s at. tt; opens = one.opens; reads = one.reads; keeps = one.keeps }
 loads_told {r = Err f} one told = record { shows = λ clean s at. tt; cause = one.cause; opens = one.opens; reads = one.reads; keeps = one.keeps }
@@ -99,7 +99,7 @@ loads_failed {old = old} {new = new} {r = Err e} is failed = record {
   keeps = failed.keeps;
 }
 
--- the failure of a read that follows another, passed on
+-- a failure of a read that follows another, passed on
 pub loads_cut : {X Y Z : Type 0} {P : OfficeState → X → Type 0} {Q : OfficeState → Y → Type 0} {R : OfficeState → Z → Type 0} {old mid new : State} {x : X} {f : Fault} {r : Result Z Fault}
     → IsErrAnd r (λ e. e ≡ f) → LoadsAt old mid (Ok x) P → LoadsAt mid new (Err f) Q → LoadsAt old new r R
 loads_cut {r = Ok z} is one failed = absurd is
@@ -131,7 +131,7 @@ loads_stopped {old = old} {new = new} {r = Err e} is one memory = record {
 abbrev pub no_batch : Batch
 no_batch = record { number = 0; ward = 0; size = 0; first_clerk = 0; second_clerk = 0; round = 0 }
 
--- the entries of the first elements, and of the next one
+-- the entries of the first elements and of the next one
 pub entries_more : {A B : Type 0} (entry : A → B) (xs : List A) (k : ℕ) (none : A) → k < length xs → take (k + 1) (map entry xs) ≡ take k (map entry xs) ++ entry (get_or xs k none) ∷ []
 entries_more {B = B} entry xs k none within =
     let x = entry (get_or xs k none) in

@@ -129,7 +129,7 @@ known_still s effect r k apart is = is ∙ sym (known_alike s (with_effect effec
 
 -- ---- what remains of a cache
 
--- the entries that remain after a test removes all that an effect concerns are correct
+-- once a test has removed all entries that an effect concerns, the remaining entries are correct
 pub left_known : (s : OfficeState) (effect : EffectEntry) (r : ReceiptEntry) (test : CachedBatch → Bool)
     → ((k : CachedBatch) → test k ≡ false → is_about effect (row_of k) ≡ false) → (ks : List CachedBatch)
     → AreKnown s ks
@@ -161,7 +161,7 @@ keyed_apart n m (k ∷ papers) all apart =
 
 -- ---- a single cache entry
 
--- a property of all entries holds for the entry at an index
+-- a property that holds for all entries holds for the entry at a given index
 pub one_of : (P : CachedBatch → Type 0) (known : List CachedBatch) (k : ℕ) (c : CachedBatch) → AllByRecursion P known → k < length known → c ≡ get_or known k c → P c
 one_of P known k c all within is = subst P (sym is) (all-get_or P known k c all within)
 
@@ -193,7 +193,7 @@ same_known x y view pile = ap (λ v. record x { view = v }) view ∙ ap (λ p. r
 
 -- ---- a cache with every batch
 
--- each entry of a cache with every batch is correct
+-- every entry of a cache that has every batch is correct
 pub all_right : (s : OfficeState) (ks : List CachedBatch) (bs : List BatchEntry) → map known_view ks ≡ map (known_of s) bs → AreKnown s ks
 all_right s [] bs are = tt
 all_right s (k ∷ ks) [] are = absurd cc
@@ -208,7 +208,7 @@ all_right s (k ∷ ks) (b ∷ bs) are =
     rest : {x y : KnownView} {xs ys : List KnownView} → x ∷ xs ≡ y ∷ ys → xs ≡ ys
     rest e = cc
 
--- the rows in a cache with every batch are those of the batches
+-- the rows in a cache that has every batch are those of the batches
 pub all_rows : (s : OfficeState) (ks : List CachedBatch) (bs : List BatchEntry) → map known_view ks ≡ map (known_of s) bs → map row_of ks ≡ bs
 all_rows s [] [] are = refl
 all_rows s [] (b ∷ bs) are = absurd cc

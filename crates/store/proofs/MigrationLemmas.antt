@@ -74,7 +74,7 @@ older_entries form s Vote has = refl
 older_entries form s Third has = refl
 older_entries form s Office has = absurd (true≢false (sym has))
 
--- in the tables that exist, the rows are also those of this version
+-- the rows in the existing tables are also those of this version
 first_entries : (form : OlderForm) (s : OfficeState) (t : Table) → place_of t < tables_in form → tables_with s (tabulation_in form s) t ≡ tables_of s t
 unfolding tables_of tables_with
 first_entries WithCounts s t low = refl
@@ -90,7 +90,7 @@ first_entries WithoutCounts s Bundle low = absurd (omega (arith, low))
 first_entries WithoutCounts s Vote low = absurd (omega (arith, low))
 first_entries WithoutCounts s Third low = absurd (omega (arith, low))
 
--- for tables that don't exist, the maps and the tabulation have no rows
+-- the maps and the tabulation have no rows for the tables that don't exist
 later_none : (form : OlderForm) (s : OfficeState) (t : TabulationEntries) → IsBare form s t → (u : Table) → tables_in form ≤ place_of u → tables_with s t u ≡ []
 unfolding tables_with
 later_none form s t bare Third up = rw bare.no_thirds refl
@@ -211,7 +211,7 @@ has_office WithoutCounts s is = subst (λ (x : Schema). has_table Office x ≡ t
 pub older_ours : (form : OlderForm) (s : Schema) → s ≡ schema_from (tables_in form) [] [] [] → IsOurs s
 older_ours form s is = record { office = λ _. first_begins (tables_in form) s is Office (some_tables form); every = λ all. absurd (true≢false (sym all ∙ misses_table form s is)) }
 
--- a schema with these names has the tables of the form
+-- a schema with the table names of a form has that form's tables
 pub form_schema : (form : OlderForm) (s : Schema) → IsOlderSchema s → tables_present s ≡ name_of form → s ≡ schema_from (tables_in form) [] [] []
 form_schema WithCounts s is same = is.without_third same
 form_schema WithoutCounts s is same = is.without_counts same
@@ -225,7 +225,7 @@ older_version form db s held = subst (λ rows. HoldsTable Office rows db.trees) 
 
 -- ---- from the rows that were read
 
--- the rows of an older state, with the office row of its version, make an older office
+-- the rows of an older state, along with the office row of its version, form an older office
 pub older_held : (form : OlderForm) (db : Database) (s : OfficeState) (t : TabulationEntries) → db.schema ≡ schema_from (tables_in form) [] [] []
     → IsDatabase db → HasVersion 1 db → IsOlderOf form s t → ListsFirst (tables_in form) db s t → HoldsOlder form db s
 older_held form db s t schema sound office is lists = record { is = is.is; first = first_from (tables_in form) (older_tables form s) db (record { schema = schema; sound = sound; holds = each }) }
@@ -268,7 +268,7 @@ unfolding tables_of
 older_tabulated WithCounts s x t is bare each same = tabulated_same s x t is each same
 older_tabulated WithoutCounts s x t is bare each same = bare.no_counts refl
 
--- such a state has exactly these maps and this tabulation
+-- such a state has exactly the listed maps and tabulation
 pub older_are : (form : OlderForm) (db : Database) (s x : OfficeState) (t : TabulationEntries) → ListsFirst (tables_in form) db s t → MapsAreSorted s
     → IsBare form s t → HoldsOlder form db x → IsOlderOf form s t
 older_are form db s x t lists rise bare held =
@@ -330,7 +330,7 @@ older_told form db s held =
       not_newer db version,
     )
 
--- a fault that is reported when an office is opened is also reported by a migration, unless it is `OlderSchema`
+-- a fault reported when an office is opened is also reported by a migration, unless it is `OlderSchema`
 pub told_at_once : (db : Database) (f : Fault) → IsFaultOf db f → f ≢ OlderSchema → IsToldInMigration db f
 told_at_once db Memory told other = tt
 told_at_once db Store told other = tt
@@ -346,7 +346,7 @@ told_at_once db WrongDatabase told other = told
 told_at_once db NewerSchema told other = told
 told_at_once db OlderSchema told other = absurd (other refl)
 
--- a fault that is reported for the rows of an older office is also reported by a migration
+-- a fault reported for the rows of an older office is also reported by a migration
 pub told_later : (db : Database) → (¬ HasNoOffice db) × HasVersion 1 db → (f : Fault) → TellsOlder db f → IsToldInMigration db f
 told_later db office Memory told = tt
 told_later db office Store told = tt
@@ -385,12 +385,12 @@ bundles_none s is = older_none WithoutCounts s is Bundle (omega arith)
 pub figures_none : (s : OfficeState) → IsOlderState s → older_tables WithoutCounts s Vote ≡ []
 figures_none s is = older_none WithoutCounts s is Vote (omega arith)
 
--- with the part that it lacked, an older office has the whole tabulation
+-- once the part it lacked is added, an older office has the whole tabulation
 pub completed_filled : (form : OlderForm) (s : OfficeState) (a : AdditionEntries) → IsCompletedBy form s a → tables_with s (with_addition a (tabulation_in form s)) ≡ tables_of s
 unfolding tables_of
 completed_filled form s a lacks = ap (tables_with s) lacks
 
--- ---- at a connection
+-- ---- on a connection
 
 pub rests_older : (form : OlderForm) (db : Database) (s : OfficeState) (st : State) → RestsAt db st → HoldsOlder form db s → RestsOlder form s st
 rests_older form db s st rests held = record {
@@ -409,7 +409,7 @@ older_rests form s st older = (
   record { is = older.is; first = older.rests.first },
 )
 
--- what a stop left of an older office is identified again after reopening
+-- what a stop left of an older office is recognized again after reopening
 pub older_again : (form : OlderForm) (s : OfficeState) (db : Database) → IsDatabase db → StoresOlder form s db.trees → HoldsOlder form db s
 older_again form s db sound left = record { is = left.is; first = first_found (tables_in form) (older_tables form s) db sound left.stores }
 
@@ -440,7 +440,7 @@ unfolding IsOffice
 state_ours db s held = record { office = λ _. begins_to Office db.schema held.office.begins; every = λ _. held.office.begins }
 
 module _ (r : Result Migrated Fault) (old new : State) where
-  -- the clauses of a migration for any database: about what it opened, about a fault, and about what a stop leaves
+  -- the clauses of a migration for any database: what it opened, which fault it reports, and what a stop leaves
   abbrev Opens : Type 0
   Opens = (db : Database) → IsOurs db.schema → IsOlderSchema db.schema → RestsAt db old → IfOk r (λ m. (x : OfficeState) × WasAt db m x × IsAt x new)
 
@@ -515,7 +515,7 @@ if_failed_later (Err f) db a b c first clean counts (inr held) = inr held
 
 -- ---- the parts of a read
 
--- whether a receipt about a third clerk is among those that were read
+-- whether any receipt that was read is about a third clerk
 asked_mapped : (rs : List ReceiptValue) → list_any (λ (r : ReceiptEntry). is_about_third r.subject) (map receipt_entry rs) ≡ list_any
     (λ (r : ReceiptValue). is_about_third (receipt_entry r).subject) rs
 asked_mapped [] = refl
@@ -524,7 +524,7 @@ asked_mapped (r ∷ rs) = ap (λ b. is_about_third (receipt_entry r).subject || 
 pub asked : (rows : Rows) (form : OlderForm) → list_any (λ (r : ReceiptValue). is_about_third (receipt_entry r).subject) rows.receipts.items ≡ true → ¬ IsOlderOf form (state_of rows) (tabulated rows)
 asked rows form hit is = true≢false (sym hit ∙ sym (asked_mapped rows.receipts.items) ∙ is.is.unasked)
 
--- what an older office lacks of the tabulation that was computed
+-- the part of the computed tabulation that an older office lacks
 pub if_lacking : (o : Option Addition) (rows : Rows) (form : OlderForm) (u : TabulationEntries) → list_any (λ (r : ReceiptValue). is_about_third (receipt_entry r).subject) rows.receipts.items ≡ false
     → IsBare form (state_of rows) (tabulated rows) → IsTabulatedAs (state_of rows) u
     → IfSome o (λ a. IsTabulatedAs (state_of rows) u → (tabulated rows ≡ tabulation_in form (state_of rows)) × IsCompletedBy form (state_of rows) (addition_entries a))

@@ -26,12 +26,12 @@ use Rattle.store.proofs.DoneLemmas.{wards_there}
 
 -- ---- lists
 
--- one more element, if the images of those before it are equal
+-- another element, if the images of those before it are equal
 pub mapped_more : {A B C : Type 0} (f : A → C) (g : B → C) (xs : List A) (x : A) (ys : List B) (y : B) → map f xs ≡ map g ys → f x ≡ g y → map f (xs ++ x ∷ []) ≡ map g (ys ++ y ∷ [])
 mapped_more {C = C} f g xs x ys y before one =
     map-append f xs (x ∷ []) ∙ ap (λ (zs : List C). zs ++ f x ∷ []) before ∙ ap (λ (z : C). map g ys ++ z ∷ []) one ∙ sym (map-append g ys (y ∷ []))
 
--- a property of the entries of all elements holds for the entry of the element at an index
+-- a property that holds for the entries of all elements holds for the entry of the element at a given index
 pub each_there : {A B : Type 0} (P : B → Type 0) (entry : A → B) (xs : List A) (k : ℕ) (x : A) → AllByRecursion P (map entry xs) → k < length xs → x ≡ get_or xs k x → P (entry x)
 each_there P entry xs k x all within is =
     subst P (get_mapped entry xs k (entry x) x within ∙ ap entry (sym is)) (all-get_or P (map entry xs) k (entry x) all (subst (λ n. k < n) (sym (mapped_length entry xs)) within))
@@ -46,7 +46,7 @@ same_ward_view x y ward status elected candidates =
     ∙ ap (λ v. record x { ward = y.ward; status = y.status; elected = v }) elected
     ∙ ap (λ v. record y { candidates = v }) candidates
 
--- a ward of a state is the one with its number
+-- a ward of a state is the one found by its number
 pub ward_there : (s : OfficeState) → IsState s → (ws : List Ward) → map ward_entry ws ≡ s.wards → (k : ℕ) (w : Ward) → k < length ws → w ≡ get_or ws k w → ward_at s w.number ≡ Some (ward_entry w)
 ward_there s is ws are k w within at =
     each_there (λ (e : WardEntry). ward_at s e.number ≡ Some e) ward_entry ws k w (subst (AllByRecursion (λ (e : WardEntry). ward_at s e.number ≡ Some e))
@@ -87,7 +87,7 @@ candidates_found s w found counted is told declared there =
 
 -- ---- papers as they are counted
 
--- the elements shown so far, followed by those that remain, are still all elements after one more is shown
+-- the elements shown so far, followed by the remaining ones, are still all the elements after another is shown
 pub told_more : {A B C D : Type 0} (view : A → D) (told : B → D) (entry : C → B) (found new : List A) (one : A) (xs : List C) (k : ℕ) (x : C) → k < length xs → x ≡ get_or xs k x
     → new ≡ found ++ one ∷ [] → view one ≡ told (entry x)
     → map view found ++ map told (map entry (drop k xs)) ≡ map told (map entry xs) → map view new ++ map told (map entry (drop (k + 1) xs)) ≡ map told (map entry xs)
@@ -100,18 +100,18 @@ told_more {C = C} {D = D} view told entry found new one xs k x within is put sam
     ∙ ap (λ (ys : List C). map view found ++ map told (map entry ys)) (sym next)
     ∙ so_far
 
--- the papers of a batch, from the candidates and the pile that were read for it
+-- the papers of a batch, from the candidates and the pile read for it
 pub papers_told : (s : OfficeState) (b : BatchEntry) (candidates : List CandidateEntry) (pile : Pile) → candidates ≡ candidates_of s b.ward → pile ≡ pile_of s b
     → papers_by candidates pile ≡ papers_of s b
 papers_told s b candidates pile here same = ap (λ (cs : List CandidateEntry). papers_by cs pile) here ∙ ap (papers_by (candidates_of s b.ward)) same
 
--- the papers of a ward's batch show the judgements by which they are counted there
+-- the papers of a ward's batch are shown with the judgements by which the ward counts them
 judged_alike : (s : OfficeState) (ward : ℕ) (b : BatchEntry) → b.ward ≡ ward → judgements_told s b ≡ judgements_in (columns_of (candidates_of s ward)) (pile_of s b)
 judged_alike s ward b is =
     mapped_twice (paper_view_of (columns_of (candidates_of s b.ward)) (verdicts_of s b.number)) (λ (p : PaperView). p.judgement) (agreed (keyings_now s b))
     ∙ ap (λ (w : ℕ). judgements_in (columns_of (candidates_of s w)) (pile_of s b)) is
 
--- the papers of all batches of a ward, one batch after another, show those judgements too
+-- the papers of all batches of a ward, one batch after another, are shown with those judgements
 pub told_counted : (s : OfficeState) (ward : ℕ) (bs : List BatchEntry)
     → flat_map (judgements_told s) (filter (λ (b : BatchEntry). b.ward == ward) bs) ≡ judgements (columns_of (candidates_of s ward)) (map (pile_of s) (filter (λ (b : BatchEntry). b.ward == ward) bs))
 told_counted s ward [] = refl
@@ -126,7 +126,7 @@ told_counted s ward (b ∷ bs) = go (b.ward == ward) refl (filter (λ (c : Batch
 
 -- ---- doubtful papers
 
--- the doubtful papers of one more batch, appended
+-- the doubtful papers of another batch, appended
 pub doubtful_put : (s : OfficeState) (columns : List ℕ) (b : BatchEntry) (before after : List DoubtfulView) (verdicts : List JudgedEntry) (papers : List KeyedEntry) (keyings : List (List KeyedEntry))
     → after ≡ before ++ doubtful_among columns verdicts papers → verdicts ≡ verdicts_of s b.number → papers ≡ agreed keyings → keyings ≡ keyings_now s b → after ≡ before ++ doubtful_in s columns b
 doubtful_put s columns b before after verdicts papers keyings put judged taken are =
@@ -137,7 +137,7 @@ doubtful_put s columns b before after verdicts papers keyings put judged taken a
 same_doubtful : (x y : DoubtfulPapersView) → x.candidates ≡ y.candidates → x.papers ≡ y.papers → x ≡ y
 same_doubtful x y candidates papers = ap (λ v. record x { candidates = v }) candidates ∙ ap (λ v. record y { papers = v }) papers
 
--- the doubtful papers of a ward, from the data that was read for it
+-- the doubtful papers of a ward, from the data read for it
 pub doubtful_told : (s : OfficeState) (ward : ℕ) (d : DoubtfulPapersView) (columns : List ℕ) (batches : List BatchEntry) → d.candidates ≡ candidates_of s ward
     → columns ≡ columns_of d.candidates → batches ≡ batches_of s ward → d.papers ≡ flat_map (doubtful_in s columns) batches → d ≡ doubtful_papers s ward
 doubtful_told s ward d columns batches here read there are =

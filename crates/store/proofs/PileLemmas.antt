@@ -1,4 +1,4 @@
--- Proof that the twins that are found are those of the batches.
+-- Proof that the twins found are those of the batches.
 use Rattle.std.proofs.Common.{◌≡◌, ◌==◌, ℕ, Bool, true, false, cond, not, ◌&&◌, List, [], ◌∷◌, ◌++◌, map, filter, find, Option, Some, None, option_map, refl, sym, ap, ◌∙◌}
 use Rattle.std.proofs.Math.Bool.{and-false}
 use Rattle.std.proofs.lemmas.Bool.{cond-true, cond-false}
@@ -18,14 +18,14 @@ use Rattle.store.specs.Piles.{ReadView, view_by, read_view_of, is_pile, numbers_
 
 -- ---- lists
 
--- the numbers of batches, with one more batch
+-- the numbers of batches, with another batch added
 pub numbers_more : (rs : List ReadView) (r : ReadView) (q : List ℕ) → numbers_with rs q ++ numbers_with (r ∷ []) q ≡ numbers_with (rs ++ r ∷ []) q
 numbers_more rs r q =
     let has = λ (x : ReadView). is_pile q x.pile in
     let number = λ (x : ReadView). x.number in
     sym (ap (map number) (filter-append has rs (r ∷ [])) ∙ map-append number (filter has rs) (filter has (r ∷ [])))
 
--- the overviews of batches, with one more batch
+-- the overviews of batches, with another batch added
 pub one_paired : (numbers : List ℕ → List ℕ) (before : List BatchOverview) (found : Option BatchOverview) (rs : List ReadView) (r : ReadView)
     → map batch_view before ≡ all_paired numbers rs → option_map batch_view found ≡ paired numbers r
     → map batch_view (before ++ option_to_list found) ≡ all_paired numbers (rs ++ r ∷ [])
@@ -43,19 +43,19 @@ one_paired numbers before found rs r all one =
     last None = refl
     last (Some v) = refl
 
--- the numbers that are found for a text
+-- the numbers found for a text
 pub group_told : {Y A S : Type 0} (numbers : HashMap (String Y) (Vec ℕ A) S) (text : List ℕ) (group : Vec ℕ A) → Some group ≡ get_by_text numbers text → group.items ≡ numbers_under numbers text
 group_told {A = A} numbers text group found = ap (λ (o : Option (Vec ℕ A)). option_map_or (λ v. v.items) o []) found
 
 -- ---- twins
 
 module _ (s : OfficeState) (ward : ℕ) where
-  -- a batch has this pile if it is taken with these papers
+  -- a batch has the given pile if it is taken with the same papers
   has_pile : (text own : List ℕ) (taken : Bool) → is_pile text (cond taken (Some own) None) ≡ (taken && bytes_eq text own)
   has_pile text own true = refl
   has_pile text own false = refl
 
-  -- the first number other than the batch's own with the same pile is that of the first twin
+  -- the first number with the same pile, other than the batch's own, is that of the first twin
   first_twin : (b : BatchEntry) (cs : List BatchEntry)
       → find (λ n. not (n == b.number)) (numbers_with (map (read_view_of s ward) cs) (pile_text_of s b)) ≡ option_map (λ (c : BatchEntry). c.number) (find (is_twin s b) cs)
   first_twin b [] = refl
@@ -118,7 +118,7 @@ module _ (s : OfficeState) (ward : ℕ) where
 
 -- ---- one batch
 
--- the overview of a batch, from the data that was read for it
+-- the overview of a batch, from the data read for it
 pub view_told : (s : OfficeState) (b : BatchEntry) (clerks : List (ℕ × Bool)) (keyings : List (List KeyedEntry)) (verdicts : List JudgedEntry)
     → clerks ≡ map (clerk_view_of s b) (clerks_of s b) → keyings ≡ keyings_now s b → verdicts ≡ verdicts_of s b.number
     → view_by b clerks keyings verdicts ≡ batch_view_with s b None

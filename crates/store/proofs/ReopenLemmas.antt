@@ -1,4 +1,4 @@
--- A database that a stop left can be reopened, at the state whose tables it contains.
+-- A database left by a stop can be reopened in the state whose tables it contains.
 use Rattle.std.proofs.Common.{◌≡◌, ◌⊎◌, inl, inr, true, [], ◌∷◌, refl, sym, ap₂, subst, IsTrue}
 use Rattle.std.specs.List.Sorted.{IsStrictlySortedBy}
 use Rattle.std.specs.declared.cmp.Ordering.{Ordering}
@@ -40,7 +40,7 @@ pub begins : (c : Contents) (db : Database) → IsOffice c db → IsOfficeSchema
 unfolding IsOffice
 begins c db office = office.begins
 
--- the trees determine the schema, so the database is the one with these tables
+-- the trees determine the schema, so the database is the one with the state's tables
 pub left_holds : (s : OfficeState) (db : Database) → IsLeftAt s db → HoldsState db s
 left_holds s db left =
     let it = left.stores in
@@ -63,7 +63,7 @@ holds_office : (s : OfficeState) (db : Database) → HoldsState db s → (¬ Has
 unfolding IsOffice
 holds_office s db held = this_office db (office_there db.schema held.office.begins) (state_version db s held)
 
--- the only faults that are reported for it are those that may be reported for any database
+-- the only faults reported for it are those that may be reported for any database
 pub left_told : (s : OfficeState) (db : Database) (f : Fault) → IsLeftAt s db → IsFaultOf db f → (f ≡ Memory) ⊎ (f ≡ Store)
 left_told s db f left told = go f told
   where
@@ -89,7 +89,7 @@ all_rise s is t = elim (which_kind t) [
   | inr has ↦ tables_rise s is t has
 ]
 
--- if a database contains a state, rowids are distinct integers; a fault of the store therefore means that the store failed
+-- if a database contains a state, its rowids are distinct integers; a `Store` fault therefore means that the store failed
 own_there : (s : OfficeState) (db : Database) → HoldsState db s → ¬ SharesRowids db
 unfolding IsOffice
 own_there s db held shared =
@@ -102,12 +102,12 @@ left_failed s db old new f left told fails = elim (left_told s db f left told) [
   | inr store ↦ inr (store, elim (fails store) [ inl failed ↦ failed | inr shared ↦ absurd (own_there s db (left_holds s db left) shared) ])
 ]
 
--- an office that is open at a state rests at the database that a stop would leave of it
+-- an office that is open in a given state rests at the database that a stop would leave of it
 pub at_left : (s : OfficeState) (st : State) → IsAt s st → IsTrue st.is_open → RestsAt st.now st × IsLeftAt s st.now
 at_left s st at is_open =
     let rests = at.rests is_open in
     (rests_at (tables_of s) st rests, record { is = at.is; sound = sound (tables_of s) st.now rests.office; stores = record { db = st.now; office = rests.office; same = refl } })
 
--- the state that is found in it is this one
+-- the state found in it is this one
 pub left_opened : (s : OfficeState) (db : Database) (st : State) → IsLeftAt s db → (x : OfficeState) × HoldsState db x × IsAt x st → IsAt s st
 left_opened s db st left found = subst (λ (x : OfficeState). IsAt x st) (one_state db found.0 s found.1 (left_holds s db left)) found.2

@@ -44,7 +44,7 @@ entries_same t row back returns xs ys up also same =
     (λ r h. permuted_has r (map row ys) (map row xs) (IsPermutation-sym _ _ same) h) in
     sym (back_all row back returns xs) ∙ ap (map back) rows ∙ back_all row back returns ys
 
--- a value that was read and has the row of an entry represents this entry
+-- a value that was read and has the row of an entry represents that entry
 pub entry_told : {V X : Type 0} (entry : V → X) (row : X → Row) (back : Row → X) → ((x : X) → back (row x) ≡ x) → (v : Option V) (x : Option X)
     → option_map (λ u. row (entry u)) v ≡ option_map row x → option_map entry v ≡ x
 entry_told entry row back returns None None is = refl
@@ -60,7 +60,7 @@ pub if_entry_told : {V X F : Type 0} (entry : V → X) (row : X → Row) (back :
 if_entry_told entry row back returns (Ok v) x told = entry_told entry row back returns v x told
 if_entry_told entry row back returns (Err f) x told = tt
 
--- the same for a list of entries
+-- the same statement for a list of entries
 pub if_entries_told : {V X W F : Type 0} (items : W → List V) (entry : V → X) (row : X → Row) (back : Row → X) → ((x : X) → back (row x) ≡ x)
     → (r : Result W F) (xs : List X) (P : List Row → Type 0) → ((rows : List Row) → P rows → rows ≡ map row xs)
     → IfOk r (λ v. P (map (λ u. row (entry u)) (items v))) → IfOk r (λ v. map entry (items v) ≡ xs)
@@ -68,9 +68,9 @@ if_entries_told items entry row back returns (Ok v) xs P are told =
     sym (back_all row back returns (map entry (items v))) ∙ ap (map back) (mapped_twice entry row (items v) ∙ are (map (λ u. row (entry u)) (items v)) told) ∙ back_all row back returns xs
 if_entries_told items entry row back returns (Err f) xs P are told = tt
 
--- ---- the only row with a key
+-- ---- the only row with a given key
 
--- two equal tests keep the same elements
+-- equal tests keep the same elements
 pub filter_alike : {X : Type 0} (p q : X → Bool) → ((x : X) → p x ≡ q x) → (xs : List X) → filter p xs ≡ filter q xs
 filter_alike p q alike [] = refl
 filter_alike p q alike (x ∷ xs) = ap (λ b. cond b (x ∷ filter p xs) (filter p xs)) (alike x) ∙ ap (λ l. cond (q x) (x ∷ l) l) (filter_alike p q alike xs)
@@ -107,7 +107,7 @@ mapped_option : {X : Type 0} (row : X → Row) (x : Option X) → map row (optio
 mapped_option row None = refl
 mapped_option row (Some x) = refl
 
--- the row with a key is that of the entry with this key
+-- the row with a given key is that of the entry with that key
 pub row_found : {X : Type 0} {cmp : X → X → Ordering} (row : X → Row) (key : Row) (compared : X → Ordering) → ((x : X) → begins_with key (row x) ≡ is_eq (compared x))
     → ((x y : X) → compared x ≡ Equal → compared y ≡ Equal → cmp x y ≡ Equal)
     → (xs : List X) → IsStrictlySortedBy cmp xs → filter (begins_with key) (map row xs) ≡ option_to_list (option_map row (entry_at compared xs))
@@ -121,7 +121,7 @@ row_found row key compared alike apart xs up =
     equal Equal is = refl
     equal _ is = absurd cc
 
--- if all rows can be read, so can the row of the entry that was found
+-- if all rows can be read, so can the row of the entry found
 pub found_fits : {X : Type 0} (R : Row → Type 0) (row : X → Row) (q : X → Bool) (xs : List X) → AllByRecursion R (map row xs) → IfSome (option_map row (find q xs)) R
 found_fits R row q [] all = tt
 found_fits {X} R row q (x ∷ xs) all = elim (q x) as (λ b. IfSome (option_map row (cond b (Some x) (find q xs))) R) [ true ↦ all.0 | false ↦ found_fits R row q xs all.1 ]

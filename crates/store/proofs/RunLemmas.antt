@@ -1,4 +1,4 @@
--- Adjacent papers are a keying if they have its numbers.
+-- Adjacent papers form a keying if they have its numbers.
 use Rattle.std.proofs.Common.{◌≡◌, ℕ, zero, suc, ◌+◌, Bool, true, cond, ◌&&◌, ◌==◌, List, [], ◌∷◌, map, filter, length, Option, Some, None, IfSome}
 use Rattle.std.proofs.Common.{Result, Ok, Err, IfOk, IfErr, OnOk, IsTrue, inl, inr, refl, sym, ap, subst, ◌∙◌, arith, Ordering, Less, Equal, nat_cmp}
 use Rattle.std.specs.Prelude.{⊤}
@@ -30,7 +30,7 @@ use Rattle.store.proofs.KeyingLemmas.{HasNumbers, has_numbers, there_whole_of}
 
 -- ---- elements that occur once in a state
 
--- two elements of a strictly ascending list that compare as equal are the same
+-- two elements of a strictly ascending list are the same if they compare as equal
 once : {X : Type 0} (cmp : X → X → Ordering) (xs : List X) → IsStrictlySortedBy cmp xs → (a b : X) → Has xs a → Has xs b → cmp a b ≡ Equal → cmp b a ≡ Equal → a ≡ b
 once cmp [] up a b here there one other = absurd here
 once cmp (x ∷ xs) up a b (inl first) (inl also) one other = first ∙ sym also
@@ -67,7 +67,7 @@ module _ (s : OfficeState) (is : IsState s) (batch round clerk : ℕ) where
       (same_place j k (a.batch_is ∙ sym b.batch_is) (a.round_is ∙ sym b.round_is) (a.clerk_is ∙ sym b.clerk_is) paper)
       (same_place k j (b.batch_is ∙ sym a.batch_is) (b.round_is ∙ sym a.round_is) (b.clerk_is ∙ sym a.clerk_is) (sym paper))
 
-  -- papers of a keying that are numbered alike are equal
+  -- papers of a keying with the same numbers are equal
   same_numbered : (n : ℕ) (js ks : List KeyedEntry) → length js ≡ length ks → are_numbered n js ≡ true → are_numbered n ks ≡ true
       → AllByRecursion (IsIn s batch round clerk) js → AllByRecursion (IsIn s batch round clerk) ks → js ≡ ks
   unfolding are_numbered
@@ -117,7 +117,7 @@ all_mapped : {A X : Type 0} (p : X → Bool) (f : A → X) (xs : List A) → lis
 all_mapped p f [] = refl
 all_mapped p f (x ∷ xs) = ap (λ b. p (f x) && b) (all_mapped p f xs)
 
--- papers that are found to be a keying are that keying
+-- papers that are recognized as a keying are that keying
 pub seen_keying : (s : OfficeState) → IsState s → (batch round clerk : ℕ) (b : BatchEntry) → batch_at s batch ≡ Some b → (ks : List KeyedPaper) → AllByRecursion (Has s.keyings) (map keyed_entry ks)
     → is_whole b.size (map keyed_entry ks) && list_all (λ k. is_paper_of batch round clerk (keyed_entry k)) ks ≡ true → map keyed_entry ks ≡ keying_of s batch round clerk
 seen_keying s is batch round clerk b found ks there seen =

@@ -1,4 +1,4 @@
--- The schema of an office that was created in memory.
+-- The schema of an office created in memory.
 use Rattle.std.proofs.Common.{◌≡◌, true, IsTrue, refl, ap, ◌∙◌}
 use Rattle.sqlite_schema.specs.declared.schema.Table.{Table}
 use Rattle.sqlite_trees.specs.View.{doubt}
@@ -19,7 +19,7 @@ pub clean_memory : doubt true ≡ 0
 unfolding doubt
 clean_memory = refl
 
--- an office that was created in an empty database has the schema of an office
+-- an office created in an empty database has the schema of an office
 pub made_schema : (old new : State) → HasCleanDisk new → IsTrue new.is_open → IsEmpty old → (HasCleanDisk new → IsBlank old → IsAt empty_office new) → IsOfficeSchema new.now.schema
 made_schema old new clean is_open empty made = begins (tables_of empty_office) new.now ((made clean (empty_blank old empty)).rests is_open).office
 

@@ -21,7 +21,7 @@ module _ {P : Type 0} (holds : P → List (List ℕ) → Type 0) (were : List Ju
   pub count_none : (ballots : Ballots P) → ((js : List Judgement) → were js → StandFor holds ballots (ballots_by js)) → CountAfter holds were columns verdicts ballots []
   count_none ballots start = λ js counted. subst (λ (ls : List Judgement). StandFor holds ballots (ballots_by ls)) (sym (append-nil js)) (start js counted)
 
-  -- one more paper is counted after the others
+  -- another paper is counted after the others
   pub count_more : (old new : Ballots P) (before : List KeyedPaper) (k : KeyedPaper)
       → ((js : List Judgement) → StandFor holds old (ballots_by js) → StandFor holds new (ballots_by (js ++ judgement_on columns verdicts (keyed_entry k) ∷ [])))
       → CountAfter holds were columns verdicts old (map keyed_entry before) → CountAfter holds were columns verdicts new (map keyed_entry (before ++ k ∷ []))
@@ -32,7 +32,7 @@ module _ {P : Type 0} (holds : P → List (List ℕ) → Type 0) (were : List Ju
       subst (λ (ls : List Judgement). StandFor holds new (ballots_by ls)) (append_assoc js told (judgement_on columns verdicts (keyed_entry k) ∷ []) ∙ ap
       (λ (ls : List Judgement). js ++ ls) all) (added (js ++ told) (counted js were_counted))
 
--- the judgements of one more batch
+-- the judgements on another batch
 pub judgements_after : (s : OfficeState) (columns : List ℕ) (bs : List BatchEntry) (b : BatchEntry)
     → settled_judgements s columns bs ++ judgements_on columns (verdicts_of s b.number) (settled_papers s b) ≡ settled_judgements s columns (bs ++ b ∷ [])
 judgements_after s columns bs b =
@@ -41,7 +41,7 @@ judgements_after s columns bs b =
 
 -- ---- wards in count
 
--- a ward that was found to be in count is in count
+-- a ward recognized as being in count is in count
 pub found_in_count : (s : OfficeState) (ward : ℕ) (found : Option WardEntry) (candidates : List CandidateEntry) (in_count : Bool) → found ≡ ward_at s ward → candidates ≡ candidates_of s ward
     → in_count ≡ is_counted_with found candidates → in_count ≡ true → IsInCount s ward
 found_in_count s ward None candidates in_count there all tells counted = absurd cc
@@ -49,7 +49,7 @@ found_in_count s ward (Some w) candidates in_count there all tells counted =
     let number = found_number (λ (x : WardEntry). x.number) s.wards ward w (sym there) in
     (w, sym there, subst (λ (cs : List CandidateEntry). (is_counted w.phase && is_contested w cs) ≡ true) (all ∙ ap (candidates_of s) number) (sym tells ∙ counted))
 
--- the ballots of the ward's papers are those of the papers with which its batches were settled
+-- the ballots of the ward's papers are those of the papers that settled its batches
 pub counted_alone : ((s : OfficeState) (w : WardEntry) (columns : List ℕ) → IsState s → ward_at s w.number ≡ Some w → is_in_count (election_of s w) ≡ true
     → ballots_in columns (piles_of s w.number) ≡ ballots_by (settled_judgements s columns (batches_of s w.number)))
     → (s : OfficeState) → IsState s → (ward : ℕ) (columns : List ℕ) → IsInCount s ward → ballots_by (settled_judgements s columns (batches_of s ward)) ≡ ballots_in columns (piles_of s ward)

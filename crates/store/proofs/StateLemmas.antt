@@ -187,7 +187,7 @@ tables_rise s is Verdict has = maps_up s (tabulation_of s) is.rise Verdict refl
 tables_rise s is Lot has = maps_up s (tabulation_of s) is.rise Lot refl
 tables_rise s is Receipt has = maps_up s (tabulation_of s) is.rise Receipt refl
 
--- maps whose rows are in ascending order are in ascending order
+-- maps are in ascending order if their rows are
 pub maps_rise : (s : OfficeState) (t : TabulationEntries) → ((u : Table) → has_entries u ≡ true → IsStrictlySortedBy (row_cmp u) (tables_with s t u)) → MapsAreSorted s
 unfolding tables_with
 maps_rise s t each = record {
@@ -203,7 +203,7 @@ maps_rise s t each = record {
 
 -- ---- states
 
--- maps in ascending order with the same rows are equal, no matter which tabulation is with them
+-- maps in ascending order with the same rows are equal, whichever tabulation accompanies them
 pub equal_maps : (s x : OfficeState) (t u : TabulationEntries) → MapsAreSorted s → MapsAreSorted x → SameContents (tables_with s t) (tables_with x u) → s ≡ x
 unfolding tables_with
 equal_maps s x t u rise also same =

@@ -61,7 +61,7 @@ open_both s (b ∷ bs) cs = let later = open_both s bs cs in omega (arith, later
 pub no_tally : (s : OfficeState) (tally : Tally) → tally.taken ≡ 0 → tally.differing ≡ 0 → tally.doubtful_open ≡ 0 → IsTally s [] tally
 no_tally s tally taken differing doubtful_open = record { taken = λ few. taken; differing = λ few. differing; doubtful_open = λ few. doubtful_open }
 
--- the tally of several batches and one more
+-- the tally of several batches and another
 pub more_tally : (s : OfficeState) (bs : List BatchEntry) (b : BatchEntry) (some one sum : Tally) → IsTally s bs some → IsTally s (b ∷ []) one
     → (sum.taken ≡ min (some.taken + one.taken) (2 ^ 64 - 1)) × (sum.differing ≡ min (some.differing + one.differing) (2 ^ 64 - 1)) ×
     (sum.doubtful_open ≡ min (some.doubtful_open + one.doubtful_open) (2 ^ 64 - 1)) → IsTally s (bs ++ b ∷ []) sum
@@ -105,7 +105,7 @@ open_fewer s (b ∷ bs) =
     go true own each all later = omega (arith, own, each, all, later)
     go false own each all later = omega (arith, own, each, all, later)
 
--- a ward of a state has at most 9999 batches of 500 papers, so its tally is exact
+-- a ward of a state has at most 9999 batches of at most 500 papers, so its tally is exact
 pub countable : (s : OfficeState) → IsState s → (ward : ℕ) (tally : Tally) → IsTally s (batches_of s ward) tally
     → (tally.taken ≡ length (taken_of s ward)) × (tally.differing ≡ length (differing_of s ward)) × (tally.doubtful_open ≡ open_among s (taken_of s ward))
 countable s is ward tally as_far =

@@ -34,7 +34,7 @@ use Rattle.tables.proofs.HoldLemmas.{lists_all, shown_rows, rows_held, held_list
 use Rattle.tables.proofs.ListingLemmas.{begins_to}
 use Rattle.store.proofs.StateLemmas.{tables_rise, maps_rise, equal_maps, tabulated_same}
 
--- ---- the tables that are read when an office is opened
+-- ---- the tables read when an office is opened
 
 -- a table is the office's, or one that contains entries
 pub which_kind : (t : Table) → (t ≡ Office) ⊎ (has_entries t ≡ true)
@@ -64,7 +64,7 @@ strange_store : (n : ℕ) (db : Database) (f : Fault) → (f ≡ Memory) ⊎ (f 
 strange_store n db f (inl same) = subst (TellsStrange n db) (sym same) tt
 strange_store n db f (inr same) = subst (TellsStrange n db) (sym same) tt
 
--- rows that are not a list of entries are not those of any state
+-- no state has rows that are not a list of entries
 pub told_strange : (n : ℕ) (t : Table) (IsRow : Row → Type 0) → has_entries t ≡ true → place_of t < n → ((s : OfficeState) → IsState s → AllByRecursion IsRow (tables_of s t))
     → (db : Database) (f : Fault)
     → (f ≡ Memory) ⊎ ((f ≡ Store) ⊎ ((f ≡ Damaged) × HoldsNone t IsRow db)) → TellsStrange n db f
@@ -72,7 +72,7 @@ told_strange n t IsRow has low fits db f (inl memory) = strange_store n db f (in
 told_strange n t IsRow has low fits db f (inr (inl store)) = strange_store n db f (inr store)
 told_strange n t IsRow has low fits db f (inr (inr none)) = subst (TellsStrange n db) (sym none.0) (t, has, low, λ s is. none.1 (tables_of s t) (fits s is) (tables_rise s is t has))
 
--- if one of the first `n` tables has rows that no state has, so has one of the first `m`
+-- if one of the first `n` tables has rows that no state has, so does one of the first `m`
 pub strange_more : (n m : ℕ) → n ≤ m → (db : Database) (f : Fault) → TellsStrange n db f → TellsStrange m db f
 strange_more n m up db Memory told = tt
 strange_more n m up db Store told = tt
@@ -82,7 +82,7 @@ strange_more n m up db WrongDatabase told = told
 strange_more n m up db NewerSchema told = told
 strange_more n m up db OlderSchema told = told
 
--- if one of the first tables has rows that no state has, the rows are not the tables of any state
+-- if one of the first tables has rows that no state has, the rows don't form the tables of any state
 pub strange_told : (n : ℕ) (db : Database) (f : Fault) → TellsStrange n db f → TellsNoState db f
 unfolding IsOffice
 strange_told n db Memory told = tt
@@ -95,7 +95,7 @@ strange_told n db OlderSchema told = told
 
 -- ---- the entries of a state
 
--- maps and a tabulation that were listed have the same rows as each state that the database contains
+-- listed maps and a listed tabulation have the same rows as any state that the database contains
 maps_same : (db : Database) (s x : OfficeState) (t : TabulationEntries) → ListsMaps db s t → HoldsState db x → SameContents (tables_of x) (tables_with s t)
 unfolding IsOffice
 maps_same db s x t lists holds u = elim (which_kind u) [
@@ -107,7 +107,7 @@ maps_same db s x t lists holds u = elim (which_kind u) [
 pub lists_rise : (db : Database) (s : OfficeState) (t : TabulationEntries) → ListsMaps db s t → MapsAreSorted s
 lists_rise db s t lists = maps_rise s t (λ u has. (lists u has).rise)
 
--- such a state has exactly these maps, and this tabulation is that of its counts
+-- such a state has exactly the listed maps, and the listed tabulation is that of its counts
 pub maps_are : (db : Database) (s x : OfficeState) (t : TabulationEntries) → ListsMaps db s t → HoldsState db x → IsTabulatedAs s t
 unfolding tables_of
 maps_are db s x t lists holds =
@@ -159,7 +159,7 @@ head_same a b same = ap first same
     first [] = []
     first (x ∷ xs) = x
 
--- the columns of a row that a query of the office table returns
+-- the columns of a row that a query on the office table returns
 pub version_shown : (row : Row) (one version : ℤ) (n : ℕ) → column row 0 ≡ Int one → column row 1 ≡ Int version → one ≡ pos 1 → version ≡ pos n → IsVersion n row
 version_shown row one version n first second is_one is_version = rw (first, second, is_one, is_version) refl
 
@@ -268,7 +268,7 @@ pub state_version : (db : Database) (s : OfficeState) → HoldsState db s → Ha
 unfolding IsOffice
 state_version db s holds = subst (λ rows. HoldsTable Office rows db.trees) (office_rows s) (holds.office.holds Office)
 
--- the faults of an opening, from those of its parts
+-- the faults reported by an opening, from those of its parts
 pub told_office : (db : Database) → has_table Office db.schema ≡ true → (f : Fault) → FaultOfOfficeTable db f → IsFaultOf db f
 told_office db there Memory told = tt
 told_office db there Store told = tt

@@ -32,7 +32,7 @@ untaken s k is none = go (is_taken s (row_of k)) refl (sym (sum_kept s k is) ∙
         lost : {n : ℕ} → Some n ≡ None → ⊥
         lost e = cc
 
--- if the checksums of two batches differ, so do their papers
+-- if the checksums of two batches differ, their papers differ
 apart : (s : OfficeState) (b c : BatchEntry) → is_taken s b ≡ true → same_sum (option_map checksum (pile_in s b)) (option_map checksum (pile_in s c)) ≡ false
     → (is_taken s c && bytes_eq (pile_text_of s b) (pile_text_of s c)) ≡ false
 apart s b c taken differ = go (is_taken s c) refl (bytes_eq (pile_text_of s b) (pile_text_of s c)) refl
@@ -64,7 +64,7 @@ module _ (s : OfficeState) (k c : CachedBatch) (own : IsKnown s k) (taken : is_t
       go true false is may = apart s (row_of k) (row_of c) taken (sym sums ∙ is)
       go true true is may = absurd cc
 
-  -- a batch that has the same checksum is taken
+  -- a batch with the same checksum is taken
   its_taken : same_sum k.pile c.pile ≡ true → is_taken s (row_of c) ≡ true
   its_taken same = go (is_taken s (row_of c)) refl (sym sums ∙ same)
     where
@@ -88,7 +88,7 @@ module _ (s : OfficeState) (k c : CachedBatch) (own : IsKnown s k) (taken : is_t
 
 -- ---- the first twin
 
--- one more element that doesn't pass a test, after others that don't
+-- another element that doesn't pass a test, after others that don't
 pub find_more : {X : Type 0} (p : X → Bool) (xs : List X) (x : X) → find p xs ≡ None → p x ≡ false → find p (xs ++ x ∷ []) ≡ None
 find_more p [] x none other = rw other refl
 find_more {X} p (y ∷ xs) x none other = go (p y) (find_more p xs x) none
@@ -123,7 +123,7 @@ module _ {X : Type 0} (row : CachedBatch → X) (known : List CachedBatch) (k : 
 
 -- ---- the batches of a ward
 
--- the overviews of several batches and one more
+-- the overviews of several batches and another
 pub views_more : (s : OfficeState) (ward : ℕ) (bs : List BatchEntry) (b : BatchEntry) (before : List BatchView) (found : Option BatchView) → before ≡ map (batch_view_of s)
     (filter (λ (c : BatchEntry). c.ward == ward) bs)
     → found ≡ batch_view_in s ward b → before ++ option_to_list found ≡ map (batch_view_of s) (filter (λ (c : BatchEntry). c.ward == ward) (bs ++ b ∷ []))
@@ -140,7 +140,7 @@ views_more s ward bs b before found so_far one =
     last true = refl
     last false = refl
 
--- a batch that has a checksum is taken
+-- a batch with a checksum is taken
 pub has_sum : (s : OfficeState) (k : CachedBatch) → IsKnown s k → (n : ℕ) → k.pile ≡ Some n → is_taken s (row_of k) ≡ true
 has_sum s k is n some = go (is_taken s (row_of k)) refl
   where

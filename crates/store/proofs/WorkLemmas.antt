@@ -1,4 +1,4 @@
--- Proof that the work that was read is the clerk's work.
+-- Proof that the work that is read is the clerk's work.
 use Rattle.std.proofs.Common.{◌≡◌, ℕ, Bool, true, false, cond, List, [], ◌∷◌, ◌++◌, map, filter, Option, Some, None, is_some, option_map, refl, sym, ap, ◌∙◌}
 use Rattle.std.proofs.lemmas.List.{map-append}
 use Rattle.std.proofs.lemmas.List.Elements.{filter-append}
@@ -30,7 +30,7 @@ found_alike entry (Some v) x is = ap is_some is
 abbrev pub work_among : OfficeState → ℕ → List BatchEntry → List WorkEntry
 work_among s clerk bs = map (work_on s clerk) (filter (is_work s clerk) bs)
 
--- the work found in one more batch, appended to the work found in the batches before it
+-- the work found in another batch, appended to the work found in the batches before it
 pub more_work : (s : OfficeState) (clerk : ℕ) (bs : List BatchEntry) (b : BatchEntry) (before : List Work) (found : Option Work) → map work_entry before ≡ work_among s clerk bs
     → option_map work_entry found ≡ cond (is_work s clerk b) (Some (work_on s clerk b)) None → map work_entry (before ++ option_to_list found) ≡ work_among s clerk (bs ++ b ∷ [])
 more_work s clerk bs b before found among one =

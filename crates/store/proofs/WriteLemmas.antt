@@ -72,14 +72,14 @@ equal_rows rows news same = subst (IsPermutation rows) same (IsPermutation-refl 
 
 -- ---- wards
 
--- one more ward
+-- adding a ward
 pub ward_put : (s : OfficeState) (t : TabulationEntries) (w : WardEntry) → SameContents (added Ward (row_of_ward w) (tables_with s t)) (tables_with (with_effect (ward_added w) s) t)
 unfolding added tables_with
 ward_put s t w = filled_changed (office_rows ∷ []) Ward (map row_of_ward s.wards) (map row_of_ward (put ward_cmp w s.wards))
     (candidate_rows s ∷ batch_rows s ∷ keying_rows s ∷ verdict_rows s ∷ lot_rows s ∷ receipt_rows s ∷ bundle_rows t ∷ vote_rows t ∷ third_rows s ∷ []) (λ rows. row_of_ward w ∷ rows) refl
     (IsPermutation-map row_of_ward (w ∷ s.wards) (put ward_cmp w s.wards) (put_same ward_cmp w s.wards))
 
--- a ward in another phase
+-- setting a ward's phase
 pub phase_put : (s : OfficeState) (t : TabulationEntries) (number : ℕ) (phase : Phase)
     → SameContents (value_put PhaseOfWard (Int (pos number) ∷ Int (pos (phase_number phase)) ∷ []) (tables_with s t)) (tables_with (with_effect (ward_moved number phase) s) t)
 unfolding value_put tables_with
@@ -90,7 +90,7 @@ phase_put s t number phase =
     (map (λ r. cond (has_key Ward values r) (with_value PhaseOfWard (value_set PhaseOfWard values) r) r)) refl
     (equal_rows _ _ (rows_set PhaseOfWard values row_of_ward (λ w. is_eq (ward_compared number w)) (in_phase phase) (λ w. key_of_number number w.number) (λ w. refl) s.wards))
 
--- a ward with this number of stages done
+-- setting a ward's number of stages done
 pub done_put : (s : OfficeState) (t : TabulationEntries) (number done : ℕ) → SameContents (value_put DoneOfWard (Int (pos number) ∷ Int (pos done) ∷ []) (tables_with s t))
     (tables_with (with_effect (stage_counted number done) s) t)
 unfolding value_put tables_with
@@ -103,7 +103,7 @@ done_put s t number done =
 
 -- ---- candidates
 
--- one more candidate
+-- adding a candidate
 pub candidate_put : (s : OfficeState) (t : TabulationEntries) (c : CandidateEntry) → SameContents (added Candidate (row_of_candidate c) (tables_with s t))
     (tables_with (with_effect (candidate_added c) s) t)
 unfolding added tables_with
@@ -111,7 +111,7 @@ candidate_put s t c = filled_changed (office_rows ∷ ward_rows s ∷ []) Candid
     (batch_rows s ∷ keying_rows s ∷ verdict_rows s ∷ lot_rows s ∷ receipt_rows s ∷ bundle_rows t ∷ vote_rows t ∷ third_rows s ∷ []) (λ rows. row_of_candidate c ∷ rows) refl
     (IsPermutation-map row_of_candidate (c ∷ s.candidates) (put candidate_cmp c s.candidates) (put_same candidate_cmp c s.candidates))
 
--- one candidate fewer
+-- removing a candidate
 pub candidate_gone : (s : OfficeState) (t : TabulationEntries) (ward number : ℕ)
     → SameContents (removed Candidate (Int (pos ward) ∷ Int (pos number) ∷ []) (tables_with s t)) (tables_with (with_effect (candidate_withdrawn ward number) s) t)
 unfolding removed tables_with
@@ -124,7 +124,7 @@ candidate_gone s t ward number =
 
 -- ---- batches
 
--- one more batch
+-- adding a batch
 pub batch_put : (s : OfficeState) (t : TabulationEntries) (b : BatchEntry) → SameContents (added Batch (row_of_batch b) (tables_with s t)) (tables_with (with_effect (batch_added b) s) t)
 unfolding added tables_with
 batch_put s t b =
@@ -132,7 +132,7 @@ batch_put s t b =
     (keying_rows s ∷ verdict_rows s ∷ lot_rows s ∷ receipt_rows s ∷ bundle_rows t ∷ vote_rows t ∷ third_rows s ∷ []) (λ rows. row_of_batch b ∷ rows) refl
     (IsPermutation-map row_of_batch (b ∷ s.batches) (put batch_cmp b s.batches) (put_same batch_cmp b s.batches))
 
--- a batch in another round
+-- setting a batch's round
 pub round_put : (s : OfficeState) (t : TabulationEntries) (number round : ℕ)
     → SameContents (value_put RoundOfBatch (Int (pos number) ∷ Int (pos round) ∷ []) (tables_with s t)) (tables_with (with_effect (batch_reopened number round) s) t)
 unfolding value_put tables_with
@@ -143,7 +143,7 @@ round_put s t number round =
     (map (λ r. cond (has_key Batch values r) (with_value RoundOfBatch (value_set RoundOfBatch values) r) r)) refl
     (equal_rows _ _ (rows_set RoundOfBatch values row_of_batch (λ b. is_eq (batch_compared number b)) (in_round round) (λ b. key_of_number number b.number) (λ b. refl) s.batches))
 
--- one more third clerk
+-- adding a third clerk
 pub third_put : (s : OfficeState) (t : TabulationEntries) (e : ThirdEntry) → SameContents (added Third (row_of_third e) (tables_with s t)) (tables_with (with_effect (third_set e) s) t)
 unfolding added tables_with
 third_put s t e =
@@ -160,7 +160,7 @@ put_each_same cmp (x ∷ xs) ys =
     IsPermutation-trans _ _ _ (IsPermutation-sym _ _ (IsPermutation-middle xs x ys))
     (IsPermutation-trans _ _ _ (IsPermutation-append_right xs (x ∷ ys) (put cmp x ys) (put_same cmp x ys)) (put_each_same cmp xs (put cmp x ys)))
 
--- more keyed papers
+-- adding keyed papers
 pub papers_put : (s : OfficeState) (t : TabulationEntries) (papers : List KeyedEntry)
     → SameContents (added_all Keying (map row_of_keyed papers) (tables_with s t)) (tables_with (with_effect (papers_keyed papers) s) t)
 unfolding added_all tables_with
@@ -171,7 +171,7 @@ papers_put s t papers =
     (subst (λ rows. IsPermutation rows (map row_of_keyed (put_each keyed_cmp papers s.keyings))) (map-append row_of_keyed papers s.keyings)
     (IsPermutation-map row_of_keyed (papers ++ s.keyings) (put_each keyed_cmp papers s.keyings) (put_each_same keyed_cmp papers s.keyings)))
 
--- one more verdict
+-- adding a verdict
 pub verdict_put : (s : OfficeState) (t : TabulationEntries) (v : JudgedEntry) → SameContents (added Verdict (row_of_judged v) (tables_with s t)) (tables_with (with_effect (paper_judged v) s) t)
 unfolding added tables_with
 verdict_put s t v =
@@ -181,7 +181,7 @@ verdict_put s t v =
 
 -- ---- lots
 
--- one more lot
+-- adding a lot
 pub lot_put : (s : OfficeState) (t : TabulationEntries) (l : LotEntry) → SameContents (added Lot (row_of_lot l) (tables_with s t)) (tables_with (with_effect (lot_drawn l) s) t)
 unfolding added tables_with
 lot_put s t l =
@@ -191,7 +191,7 @@ lot_put s t l =
 
 -- ---- receipts
 
--- one more receipt
+-- adding a receipt
 pub receipt_put : (s : OfficeState) (t : TabulationEntries) (r : ReceiptEntry) → SameContents (added Receipt (row_of_receipt r) (tables_with s t)) (tables_with (with_receipt r s) t)
 unfolding added tables_with
 receipt_put s t r = filled_changed (office_rows ∷ ward_rows s ∷ candidate_rows s ∷ batch_rows s ∷ keying_rows s ∷ verdict_rows s ∷ lot_rows s ∷ []) Receipt
@@ -204,11 +204,11 @@ receipt_put s t r = filled_changed (office_rows ∷ ward_rows s ∷ candidate_ro
 abbrev state_rows : OfficeState → List (Table × List Row)
 state_rows s = office_rows ∷ ward_rows s ∷ candidate_rows s ∷ batch_rows s ∷ keying_rows s ∷ verdict_rows s ∷ lot_rows s ∷ receipt_rows s ∷ []
 
--- a tabulation with some bundles in their new places
+-- a tabulation with the moved bundles in their new places
 abbrev pub with_moved : List PlacedBundle → TabulationEntries → TabulationEntries
 with_moved moved t = record t { bundles = fold (λ bundles b. moved_to b bundles) t.bundles (map placed_entry moved) }
 
--- bundles that have moved
+-- moving bundles
 pub bundles_moved : (s : OfficeState) (t : TabulationEntries) (moved : List PlacedBundle)
     → SameContents (replaced_all Bundle (map (λ b. row_of_placed (placed_entry b)) moved) (tables_with s t)) (tables_with s (with_moved moved t))
 unfolding tables_with
@@ -222,11 +222,11 @@ bundles_moved s t moved u =
     subst (λ l. IsPermutation l (tables_with s (record t { bundles = after }) u)) (sym (replaced_all_there Bundle rows (tables_with s t) u))
     (filled_changed (state_rows s) Bundle (map row_of_placed t.bundles) (map row_of_placed after) (vote_rows t ∷ third_rows s ∷ []) (λ l. all_replaced Bundle l rows) refl (equal_rows _ _ made) u)
 
--- the rows of new entries, followed by those of others
+-- the rows of new entries, followed by those of existing ones
 rows_before : {V X : Type 0} (entry : V → X) (row : X → Row) (news : List V) (xs : List X) → map (λ v. row (entry v)) news ++ map row xs ≡ map row (map entry news ++ xs)
 rows_before entry row news xs = ap (λ l. l ++ map row xs) (sym (mapped_twice entry row news)) ∙ sym (map-append row (map entry news) xs)
 
--- more bundles
+-- adding bundles
 pub bundles_put : (s : OfficeState) (t : TabulationEntries) (placed : List PlacedBundle)
     → SameContents (added_all Bundle (map (λ b. row_of_placed (placed_entry b)) placed) (tables_with s t)) (tables_with s (record t { bundles = map placed_entry placed ++ t.bundles }))
 unfolding added_all tables_with
@@ -235,7 +235,7 @@ bundles_put s t placed =
     filled_changed (state_rows s) Bundle (map row_of_placed t.bundles) (map row_of_placed (map placed_entry placed ++ t.bundles)) (vote_rows t ∷ third_rows s ∷ [])
     (λ l. rows ++ l) refl (equal_rows _ _ (rows_before placed_entry row_of_placed placed t.bundles))
 
--- more figures
+-- adding figures
 pub figures_put : (s : OfficeState) (t : TabulationEntries) (figures : List StageFigure)
     → SameContents (added_all Vote (map (λ f. row_of_figure (figure_entry f)) figures) (tables_with s t)) (tables_with s (record t { figures = map figure_entry figures ++ t.figures }))
 unfolding added_all tables_with
@@ -244,7 +244,7 @@ figures_put s t figures =
     filled_changed (state_rows s ++ bundle_rows t ∷ []) Vote (map row_of_figure t.figures) (map row_of_figure (map figure_entry figures ++ t.figures))
     (third_rows s ∷ []) (λ l. rows ++ l) refl (equal_rows _ _ (rows_before figure_entry row_of_figure figures t.figures))
 
--- more bundles and figures
+-- adding bundles and figures
 pub both_put : (s : OfficeState) (t : TabulationEntries) (placed : List PlacedBundle) (figures : List StageFigure)
     → SameContents (added_all Vote (map (λ f. row_of_figure (figure_entry f)) figures) (added_all Bundle (map (λ b. row_of_placed (placed_entry b)) placed) (tables_with s t)))
     (tables_with s (record { bundles = map placed_entry placed ++ t.bundles; figures = map figure_entry figures ++ t.figures }))

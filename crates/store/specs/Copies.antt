@@ -16,7 +16,7 @@ use Rattle.store.specs.declared.copying.CopyFault.TheVariants.{Office, Taken, Co
 use Rattle.store.specs.StateTables.{tables_of, HoldsState, StoresState, IsAt, KeepsConnection}
 use Rattle.store.specs.Openings.{IsBlank, IsLeftAt, IsFaultOf}
 
--- whether a paper is the first of a keying: each keying of a batch in a round has exactly one
+-- whether a paper is the first in a keying; each keying has exactly one such paper
 abbrev pub is_first_paper : KeyedEntry → Bool
 is_first_paper k = k.paper == 1
 
@@ -29,18 +29,18 @@ holdings_of s = record {
   receipts = length s.receipts;
 }
 
--- a stop leaves in the copy what it could have left before, or the tables of this state
+-- a stop leaves in the copy either what it could have left before or the tables of the given state
 abbrev pub LeavesNoneOrAll : OfficeState → State → State → Type 0
 LeavesNoneOrAll s old new = (trees : Trees) → new.may_leave trees → old.may_leave trees ⊎ Stores (tables_of s) trees
 
--- Why there is no copy. Either opening an office reports this fault for this database, with its cause if it is a fault of the store. Or the database contains
--- a state, and an allocation or the store of the copy failed.
+-- Why copying failed. Either opening an office reports this fault for this database, with its cause if it is a fault of the store. Or the database contains a
+-- state, and an allocation or the copy's store failed.
 abbrev pub IsToldInCopying : Database → State → State → CopyFault → Type 0
 IsToldInCopying db old new (Office fault) = IsFaultOf db fault × FailsToList db old new fault
 IsToldInCopying db old new Taken = ⊥
 IsToldInCopying db old new (Copy fault) = ((fault ≡ Memory) ⊎ (fault ≡ StoreFailed)) × ((s : OfficeState) × HoldsState db s)
 
--- the same for an office that was left by a stop: an allocation or a store failed
+-- why copying an office left by a stop failed: an allocation or a store failed
 abbrev pub StopsInCopying : State → State → CopyFault → Type 0
 StopsInCopying old new (Office fault) = FailsBy old new fault
 StopsInCopying old new Taken = ⊥
@@ -52,8 +52,8 @@ IsUnbegun (Office fault) = ⊤
 IsUnbegun Taken = ⊤
 IsUnbegun (Copy fault) = ⊥
 
--- The outcome of copying an office that keeps a state. Either the copy keeps that same state, or a fault is reported, and a stop leaves in the copy what it
--- could have left before, or the whole copy.
+-- The outcome of copying an office that keeps a state. Either the copy keeps that same state, or a fault is reported, and a stop leaves in the copy either what
+-- it could have left before or the whole copy.
 pub record CopiesAt (s : OfficeState) (blank full : State) (result : Result OfficeCounts CopyFault) : Type 0 where
   pub same : IfOk result (λ h. (h ≡ holdings_of s) × (HasCleanDisk full → IsBlank blank → IsAt s full))
   pub stops : HasCleanDisk full → IsBlank blank → LeavesNoneOrAll s blank full
@@ -75,7 +75,7 @@ module _ {S T : Type 0} (store : Ghosts S) (other : Ghosts T) (conn conn_after :
   abbrev full : State
   full = state other copy_after
 
-  -- The outcome of copying an office of which only the rows are known (`copied`, `told`), or the state is known (`same`, `stops`, `cause`), or that is open
+  -- The outcome of copying an office if only its rows are known (`copied`, `told`), if its state is known (`same`, `stops`, `cause`), or if it is open
   -- (`kept`). Also, in each case, what the copy contains (`made`, `whole`), and when nothing is written.
   pub record CopiesTo : Type 0 where
     pub copied : HasCleanDisk new → (db : Database) → IsOurs db.schema → RestsAt db old

@@ -1,4 +1,4 @@
--- What is read for the count of a ward.
+-- The data read for the count of a ward.
 use Rattle.std.specs.Prelude.{◌≡◌, ◌==◌, map, ℕ, true, false, List, Option, Some, None, ⊤, Bool, ◌&&◌}
 use Rattle.std.specs.List.{filter}
 use Rattle.count.specs.StoredCounts.{StoredCountEntry, IsStoredCountOf}
@@ -15,32 +15,32 @@ use Rattle.register.specs.Tabulated.{PlacedEntry, FigureEntry, tabulation_of, ha
 use Rattle.store.specs.declared.views.papers.BatchPapers.{BatchPapers}
 use Rattle.store.specs.Keyings.{keyings_by}
 
--- the entry of a batch's papers
+-- the entry for a batch's papers
 abbrev pub pile_by : BatchPapers → Pile
 pile_by papers = record { keyings = keyings_by papers.keyings; verdicts = map judged_entry papers.verdicts.items }
 
--- the ward that was found has been sealed, and its election is contested with these candidates
+-- the ward found has been sealed, and its election is contested with these candidates
 abbrev pub is_counted_with : Option WardEntry → List CandidateEntry → Bool
 is_counted_with None candidates = false
 is_counted_with (Some w) candidates = is_counted w.phase && is_contested w candidates
 
--- there is a ward with this number, and it is in count
+-- there is a ward with the given number, and it is in count
 abbrev pub IsInCount : OfficeState → ℕ → Type 0
 IsInCount s ward = (w : WardEntry) × (ward_at s ward ≡ Some w) × (is_in_count (election_of s w) ≡ true)
 
--- the election that was found represents this one; none was found if there is none
+-- the election found represents this one; none was found if this one doesn't exist
 abbrev pub IsFoundFor : Option Election → Option ElectionEntry → Type 0
 IsFoundFor None None = ⊤
 IsFoundFor (Some e) (Some entry) = IsElection e entry
 IsFoundFor None (Some entry) = ⊥
 IsFoundFor (Some e) None = ⊥
 
--- the input of a command that needs the poll of an election
+-- the input for a command that needs the poll of an election
 abbrev pub polled_part : Option ElectionEntry → CommandInputEntries
 polled_part None = empty_input
 polled_part (Some e) = record empty_input { ward = Some e.ward; poll = Some (poll_of e.ward.seats e.ballots) }
 
--- the input of a command that needs what is due in the count of an election, and the elected candidates
+-- the input for a command that needs what an election's count requires next, and the elected candidates
 abbrev pub counted_part : Option ElectionEntry → CommandInputEntries
 counted_part None = empty_input
 counted_part (Some e) = record empty_input { ward = Some e.ward; due = Some (due_of e); elected = elected_of e }
@@ -54,15 +54,15 @@ bundles_at s ward = filter (λ (b : PlacedEntry). b.ward == ward) (tabulation_of
 abbrev pub figures_at : OfficeState → ℕ → List FigureEntry
 figures_at s ward = filter (λ (f : FigureEntry). f.ward == ward) (tabulation_of s).figures
 
--- the election of the ward that was found
+-- the election in the ward found
 abbrev pub election_in : OfficeState → CountedWard → ElectionEntry
 election_in s found = election_of s (ward_entry found.ward)
 
--- the ward that was found exists, and its candidates are those found with it
+-- the ward found exists, and its candidates are those found with it
 abbrev pub WasFound : OfficeState → CountedWard → Type 0
 WasFound s found = (ward_at s found.ward.number ≡ Some (ward_entry found.ward)) × (map candidate_entry found.candidates.items ≡ candidates_of s found.ward.number)
 
--- the ward with this number was found with its candidates and without its count, if it exists
+-- the ward with the given number, if it exists, was found with its candidates and without its count
 abbrev pub IsContestAt : OfficeState → ℕ → Option CountedWard → Type 0
 IsContestAt s ward None = ward_at s ward ≡ None
 IsContestAt s ward (Some found) = (ward_at s ward ≡ Some (ward_entry found.ward)) × WasFound s found × (found.count ≡ None)
@@ -71,12 +71,12 @@ IsContestAt s ward (Some found) = (ward_at s ward ≡ Some (ward_entry found.war
 abbrev pub IsStoredCount : ElectionEntry → Option StoredCountEntry → Type 0
 IsStoredCount e found = (kept : StoredCountEntry) × (found ≡ Some kept) × IsStoredCountOf (contest_of e) (stages_of e) kept
 
--- the count of an election if a stage is done; `None` otherwise
+-- the count of an election if a stage has been done; `None` otherwise
 abbrev pub IsCountIfBegun : ElectionEntry → Option Count → Type 0
 IsCountIfBegun e None = has_stages e ≡ false
 IsCountIfBegun e (Some count) = (has_stages e ≡ true) × IsCountOf e count
 
--- the same for an election that may not exist
+-- `IsCountIfBegun`, for an election that may not exist
 abbrev pub IsCountIfBegunFor : Option ElectionEntry → Option Count → Type 0
 IsCountIfBegunFor None found = found ≡ None
 IsCountIfBegunFor (Some e) found = IsCountIfBegun e found
@@ -96,7 +96,7 @@ pub record IsWardCount (e : ElectionEntry) (found : CountedWard) : Type 0 where
 abbrev pub IsCounted : ElectionEntry → Option CountedWard → Type 0
 IsCounted e found = (count : CountedWard) × (found ≡ Some count) × IsWardCount e count
 
--- the result is that of `IsCounted`, and how many papers are rejected
+-- the result is that of `IsCounted`, along with the number of rejected papers
 abbrev pub IsBegun : ElectionEntry → Option WardSheet → Type 0
 IsBegun e found = (sheet : WardSheet) × (found ≡ Some sheet) × IsWardCount e sheet.counted × (sheet.rejected ≡ e.ballots.rejected)
 

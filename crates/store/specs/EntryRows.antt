@@ -9,7 +9,7 @@ use Rattle.register.specs.Offices.{WardEntry, CandidateEntry, BatchEntry, ThirdE
 use Rattle.register.specs.Tabulated.{PlacedEntry, FigureEntry}
 use Rattle.tables.specs.RowValues.{IsNumber, IsAmount, IsText, IsBytes}
 
--- the value is the number of a phase
+-- the value is a phase's number
 abbrev pub IsPhase : Value → Type 0
 IsPhase v = (p : Phase) × (v ≡ Int (pos (phase_number p)))
 
@@ -17,7 +17,7 @@ IsPhase v = (p : Phase) × (v ≡ Int (pos (phase_number p)))
 abbrev pub this_version : ℕ
 this_version = 2
 
--- the row of the office, with a schema version
+-- the row of the office, with the given schema version
 abbrev pub office_row : ℕ → Row
 office_row version = Int (pos 1) ∷ Int (pos version) ∷ []
 

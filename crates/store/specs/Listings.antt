@@ -1,4 +1,4 @@
--- The parts in which the entries of a database are listed when an office is opened.
+-- How the entries of a database are listed, part by part, when an office is opened.
 use Rattle.std.specs.Prelude.{◌≡◌, ◌<◌, ℕ, true, false, map, ⊤, Result, IfOk, IfErr, OnOk, IsTrue}
 use Rattle.std.specs.List.Sorted.{IsStrictlySortedBy}
 use Rattle.sqlite_trees.specs.declared.store.Store.{Ghosts}
@@ -25,7 +25,7 @@ use Rattle.store.specs.EntryRows.{row_of_batch, row_of_keyed, row_of_judged}
 use Rattle.store.specs.StateTables.{tables_of, tables_with}
 use Rattle.store.specs.Openings.{has_entries}
 
--- A listing of rows, for any database of this kind at which the connection rests: what it finds there, which fault is reported for the rows, and why it
+-- A listing of rows, for any database of the given kind at which the connection rests: what it finds there, which fault is reported for the rows, and why it
 -- fails. It changes nothing, and the connection is open if it succeeds.
 pub record ListsAt {X : Type 0} (old new : State) (result : Result X Fault) (IsKind : Database → Type 0) (IsTold : Database → X → Type 0) (Gives : Database → Fault → Type 0) : Type 0 where
   pub lists : HasCleanDisk new → (db : Database) → IsKind db → RestsAt db old → IfOk result (IsTold db)
@@ -62,7 +62,7 @@ TellsStrange n db OlderSchema = ⊥
 abbrev pub ListsFirst : ℕ → Database → OfficeState → TabulationEntries → Type 0
 ListsFirst n db s t = (u : Table) → has_entries u ≡ true → place_of u < n → ListsEntries u db (tables_with s t u)
 
--- all rows of the batches, of the keyed papers and of the judged papers
+-- all rows for batches, keyed papers and judged papers
 pub record ListsPapers (db : Database) (papers : Papers) : Type 0 where
   pub batches : ListsEntries Batch db (map (λ (b : BatchValue). row_of_batch (batch_entry b)) papers.batches.items)
   pub keyings : ListsEntries Keying db (map (λ (k : KeyedPaper). row_of_keyed (keyed_entry k)) papers.keyings.items)

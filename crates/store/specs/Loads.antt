@@ -1,4 +1,4 @@
--- What a store returns about the state that it keeps, and the state in which it is left.
+-- What a store returns about the state it keeps, and the state it is left in.
 use Rattle.std.specs.Prelude.{Result, IfOk, IfErr, OnOk, IsTrue}
 use Rattle.sqlite_trees.specs.declared.store.Store.{Ghosts}
 use Rattle.sqlite.specs.Held.{Held, state}

@@ -18,7 +18,7 @@ use Rattle.store.specs.Overviews.{BatchView, WardView, batch_view, batch_view_of
 
 -- ---- checksums
 
--- adds one more byte of a text to a checksum
+-- adds another byte of a text to a checksum
 abbrev pub mixed : ℕ → ℕ → ℕ
 mixed sum byte = ((sum * 1099511628211) % 2 ^ 64 + byte) % 2 ^ 64
 
@@ -39,11 +39,11 @@ known_of s b = record { view = batch_view_with s b None; pile = option_map check
 abbrev pub known_view : CachedBatch → KnownView
 known_view k = record { view = batch_view k.overview; pile = k.pile }
 
--- the row of the batch of a cache entry
+-- the row of a cache entry's batch
 abbrev pub row_of : CachedBatch → BatchEntry
 row_of k = batch_entry k.overview.batch
 
--- a cache entry is correct in a state: it equals what the state determines for a batch with this row
+-- a cache entry is correct in a state: it equals what the state determines for a batch with the entry's row
 abbrev pub IsKnown : OfficeState → CachedBatch → Type 0
 IsKnown s k = known_view k ≡ known_of s (row_of k)
 
@@ -54,17 +54,17 @@ AreKnown s ks = AllByRecursion (IsKnown s) ks
 abbrev pub KnowsAll : OfficeState → List CachedBatch → Type 0
 KnowsAll s ks = map known_view ks ≡ map (known_of s) s.batches
 
--- both have a checksum, and the checksums are equal
+-- both checksums exist, and they are equal
 abbrev pub same_sum : Option ℕ → Option ℕ → Bool
 same_sum (Some a) (Some b) = a == b
 same_sum (Some a) None = false
 same_sum None b = false
 
--- whether another batch may be a batch's twin, by their cache entries
+-- whether two batches may be twins, judging by their cache entries
 abbrev pub may_be_twin : CachedBatch → CachedBatch → Bool
 may_be_twin k c = not (c.overview.batch.number == k.overview.batch.number) && same_sum k.pile c.pile
 
--- the overview of a batch with its twin, if the batch belongs to this ward
+-- the overview of a batch with its twin, if the batch belongs to the given ward
 abbrev pub batch_view_in : OfficeState → ℕ → BatchEntry → Option BatchView
 batch_view_in s ward b = if b.ward == ward then Some (batch_view_of s b) else None
 
@@ -84,7 +84,7 @@ is_about (paper_judged v) b = b.number == v.batch
 is_about (stage_counted ward done) b = false
 is_about (lot_drawn l) b = false
 
--- whether a batch is among these, which include every batch that the effect concerns
+-- whether a batch is in the given set, which includes every batch that the effect concerns
 abbrev pub concerns : AffectedBatches → BatchEntry → Bool
 concerns Nothing b = false
 concerns (Batch number) b = b.number == number
@@ -93,7 +93,7 @@ concerns All b = true
 
 -- ---- a store with a cache
 
--- While the connection is open, it keeps some state in which all cache entries are correct.
+-- While the connection is open, it keeps a state in which all cache entries are correct.
 pub record Remembers (st : State) (ks : List CachedBatch) : Type 0 where
   pub state : OfficeState
   pub at : IsAt state st
@@ -109,7 +109,7 @@ IsTied st memory = IfSome memory (λ known. HasCleanDisk st → IsTrue st.is_ope
 
 -- ---- the batches of a ward
 
--- the overviews of these batches, without their twins
+-- the overviews of the given batches, without their twins
 abbrev pub views_of : OfficeState → List BatchEntry → List BatchView
 views_of s bs = map (λ (b : BatchEntry). batch_view_with s b None) bs
 
@@ -117,7 +117,7 @@ views_of s bs = map (λ (b : BatchEntry). batch_view_with s b None) bs
 abbrev pub views_in : List CachedBatch → ℕ → List BatchView
 views_in ks ward = map (λ (k : CachedBatch). batch_view k.overview) (filter (λ (k : CachedBatch). k.overview.batch.ward == ward) ks)
 
--- the tally of a batch with this standing and this number of doubtful papers without a verdict
+-- the tally of a batch with the given standing and the given number of doubtful papers without a verdict
 abbrev pub tally_at : BatchStanding → ℕ → Tally
 tally_at Taken doubtful_open = record { taken = 1; differing = 0; doubtful_open = doubtful_open }
 tally_at Differing doubtful_open = record { taken = 0; differing = 1; doubtful_open = doubtful_open }

@@ -1,4 +1,4 @@
--- An office that an earlier program made, and the result of its migration.
+-- An office made by an earlier program, and the result of its migration.
 use Rattle.std.specs.Prelude.{◌≡◌, ◌⊎◌, ◌==◌, ℕ, Bool, true, false, List, [], ◌∷◌, codes, ⊤, Result, Err, IfOk, IfErr}
 use Rattle.std.specs.List.{list_any, starts_with}
 use Rattle.sqlite.specs.Tree.{Trees}
@@ -28,12 +28,12 @@ use Rattle.store.specs.Openings.{HasNoOffice, IsNewer, HoldsNoState}
 
 -- ---- an older office
 
--- how many of the tables an older office has, counted from the first
+-- how many of the tables, counted from the first, an older office has
 abbrev pub tables_in : OlderForm → ℕ
 tables_in WithCounts = 10
 tables_in WithoutCounts = 8
 
--- which tables of an office an older office has
+-- which of an office's tables an older office has
 abbrev pub name_of : OlderForm → TablesPresent
 name_of WithCounts = WithoutThird
 name_of WithoutCounts = WithoutCountTables
@@ -57,17 +57,17 @@ pub record IsOlderState (s : OfficeState) : Type 0 where
   pub no_thirds : s.thirds ≡ []
   pub unasked : list_any (λ r. is_about_third r.subject) s.receipts ≡ false
 
--- the database contains exactly the older tables of this state
+-- the database contains exactly the older tables of the given state
 pub record HoldsOlder (form : OlderForm) (db : Database) (s : OfficeState) : Type 0 where
   pub is : IsOlderState s
   pub first : HasFirstTables (tables_in form) (older_tables form s) db
 
--- a connection between two transactions, at the older tables of this state
+-- a connection between two transactions, at the older tables of the given state
 pub record RestsOlder (form : OlderForm) (s : OfficeState) (st : State) : Type 0 where
   pub is : IsOlderState s
   pub rests : RestsFirst (tables_in form) (older_tables form s) st
 
--- a connection inside a transaction that sees the older tables of this state
+-- a connection inside a transaction that sees the older tables of the given state
 abbrev pub SeesOlder : OlderForm → OfficeState → State → Type 0
 SeesOlder form s st = IsOlderState s × SeesMade (tables_in form) (older_tables form s) st
 
@@ -76,22 +76,22 @@ pub record StoresOlder (form : OlderForm) (s : OfficeState) (trees : Trees) : Ty
   pub is : IsOlderState s
   pub stores : StoresFirst (tables_in form) (older_tables form s) trees
 
--- a stop leaves either what it could have left before, namely the older tables of this state, or the tables of this state in this version
+-- a stop leaves either what it could have left before, namely the older tables of the given state, or that state's tables in this version
 abbrev pub LeavesOldOrNew : OlderForm → OfficeState → State → State → Type 0
 LeavesOldOrNew form s old new = (trees : Trees) → new.may_leave trees → (old.may_leave trees × StoresOlder form s trees) ⊎ Stores (tables_of s) trees
 
--- the rows are not the older tables of any state
+-- the rows don't form the older tables of any state
 abbrev pub HoldsNoOlder : Database → Type 0
 HoldsNoOlder db = (form : OlderForm) (s : OfficeState) → ¬ HoldsOlder form db s
 
 -- ---- what a migration reports
 
--- the database contained this state: at this version, and nothing had to be done, or as an older office
+-- the database contained this state: in this version, so nothing had to be done, or as an older office
 abbrev pub WasAt : Database → Migrated → OfficeState → Type 0
 WasAt db Already s = HoldsState db s
 WasAt db Done s = (form : OlderForm) × HoldsOlder form db s
 
--- an office, not of a later version, whose rows are neither the tables nor the older tables of any state
+-- an office, not of a later version, whose rows form neither the tables nor the older tables of any state
 pub record IsBeyondMigration (db : Database) : Type 0 where
   pub some_office : ¬ HasNoOffice db
   pub not_newer : ¬ IsNewer db
@@ -108,19 +108,19 @@ IsToldInMigration db WrongDatabase = HasNoOffice db
 IsToldInMigration db NewerSchema = IsNewer db
 IsToldInMigration db OlderSchema = ⊥
 
--- why a migration failed, if it reports a fault of the store: either not all rows could be listed; or the rows are the older tables of a state, and nothing
+-- why a migration failed, if it reports a fault of the store: either the rows couldn't all be listed, or the rows are the older tables of a state, and nothing
 -- specifies why a write fails
 abbrev pub FailsToMigrate : Database → State → State → Fault → Type 0
 FailsToMigrate db old new f = FailsToList db old new f ⊎ ((form : OlderForm) × (s : OfficeState) × HoldsOlder form db s)
 
 -- ---- the parts of a migration
 
--- the maps that were read have no third clerk; and in the form without counts there was no tabulation
+-- the maps that were read have no third clerk; and, in the form without counts, there was no tabulation
 pub record IsBare (form : OlderForm) (s : OfficeState) (t : TabulationEntries) : Type 0 where
   pub no_thirds : s.thirds ≡ []
   pub no_counts : form ≡ WithoutCounts → t ≡ no_tabulation
 
--- these maps are an older state, and this is the tabulation that such an office has
+-- the given maps form an older state, and the given tabulation is the one such an office has
 pub record IsOlderOf (form : OlderForm) (s : OfficeState) (t : TabulationEntries) : Type 0 where
   pub is : IsOlderState s
   pub tabulated : t ≡ tabulation_in form s
@@ -129,7 +129,7 @@ pub record IsOlderOf (form : OlderForm) (s : OfficeState) (t : TabulationEntries
 abbrev pub IsCompletedBy : OlderForm → OfficeState → AdditionEntries → Type 0
 IsCompletedBy form s a = with_addition a (tabulation_in form s) ≡ tabulation_of s
 
--- an older office was read, and this is what it lacks
+-- an older office was read, and this addition is what it lacks
 abbrev pub FoundOlder : Database → OlderForm → AdditionEntries → Type 0
 FoundOlder db form a = (s : OfficeState) × HoldsOlder form db s × IsCompletedBy form s a
 

@@ -1,4 +1,4 @@
--- What may be found when an office is opened.
+-- What an opening may find.
 use Rattle.std.specs.Prelude.{◌≡◌, ◌≢◌, ◌⊎◌, ◌<◌, ℕ, ℤ, pos, ◌<ℤ◌, Bool, true, false, List, [], ◌∷◌, ⊤, IsTrue}
 use Rattle.sqlite.specs.declared.types.Value.TheVariants.{Int}
 use Rattle.sqlite.specs.Order.{Row}
@@ -19,7 +19,7 @@ use Rattle.tables.specs.Reading.{ListsEntries}
 use Rattle.store.specs.EntryRows.{this_version, office_row}
 use Rattle.store.specs.StateTables.{tables_of, tables_with, HoldsState}
 
--- there is no office table, or no row in it
+-- there is no office table, or it has no row
 abbrev pub HasNoOffice : Database → Type 0
 HasNoOffice db = (has_table Office db.schema ≡ false) ⊎ (tuples Office db.trees ≡ [])
 
@@ -31,15 +31,15 @@ IsNewer db = (version : ℤ) × (pos this_version <ℤ version) × (tuples Offic
 abbrev pub IsOlder : Database → Type 0
 IsOlder db = tuples Office db.trees ≡ office_row 1 ∷ []
 
--- the office table has exactly one row, that of an office of this version
+-- the office table has exactly one row, that of an office of the given version
 abbrev pub HasVersion : ℕ → Database → Type 0
 HasVersion version db = HoldsTable Office (office_row version ∷ []) db.trees
 
--- the rows are not the tables of any state
+-- the rows don't form the tables of any state
 abbrev pub HoldsNoState : Database → Type 0
 HoldsNoState db = (s : OfficeState) → ¬ HoldsState db s
 
--- an office of this version whose rows are not the tables of any state
+-- an office of this version whose rows don't form the tables of any state
 pub record IsDamaged (db : Database) : Type 0 where
   pub some_office : ¬ HasNoOffice db
   pub not_newer : ¬ IsNewer db
@@ -56,7 +56,7 @@ IsFaultOf db WrongDatabase = HasNoOffice db
 IsFaultOf db NewerSchema = IsNewer db
 IsFaultOf db OlderSchema = (¬ HasNoOffice db) × HasVersion 1 db
 
--- a sound database that contains exactly the tables of this state, as a stop leaves it
+-- a sound database that contains exactly the tables of the given state, as a stop leaves it
 pub record IsLeftAt (s : OfficeState) (db : Database) : Type 0 where
   pub is : IsState s
   pub sound : IsDatabase db
@@ -72,7 +72,7 @@ pub record IsBlank (st : State) : Type 0 where
 
 -- ---- the parts of an opening
 
--- the fault reported for the rows of a table: `Damaged` only if they are not those of any state
+-- the fault reported for the rows of a table: `Damaged` only if no state has them
 abbrev pub TellsNoState : Database → Fault → Type 0
 TellsNoState db Memory = ⊤
 TellsNoState db Store = ⊤
@@ -82,7 +82,7 @@ TellsNoState db WrongDatabase = ⊥
 TellsNoState db NewerSchema = ⊥
 TellsNoState db OlderSchema = ⊥
 
--- the row is that of an office of this version
+-- the row is that of an office of the given version
 abbrev pub IsVersion : ℕ → Row → Type 0
 IsVersion version row = at (column_places Office) row ≡ office_row version
 
@@ -130,11 +130,11 @@ has_entries Vote = true
 has_entries Third = true
 has_entries Office = false
 
--- all rows of each table of entries are those of these maps and of this tabulation
+-- all rows of each table of entries are those of the given maps and tabulation
 abbrev pub ListsMaps : Database → OfficeState → TabulationEntries → Type 0
 ListsMaps db s t = (u : Table) → has_entries u ≡ true → ListsEntries u db (tables_with s t u)
 
--- these maps are a state, and this is the tabulation of its counts
+-- the given maps form a state, and the given tabulation is that of its counts
 abbrev pub IsTabulatedAs : OfficeState → TabulationEntries → Type 0
 IsTabulatedAs s t = IsState s × IsTabulationOf t s
 

@@ -1,5 +1,4 @@
--- Overviews for the office alone: its wards; the batches of a ward, and their papers as they are counted; doubtful papers; differences between keyings; and
--- receipts.
+-- Overviews for the office only: its wards; the batches of a ward, and their papers as counted; doubtful papers; differences between keyings; and receipts.
 use Rattle.std.specs.Prelude.{ℕ, Bool, not, ◌==◌, ◌&&◌, ◌++◌, if◌then◌else◌, List, [], ◌∷◌, map, find, codes, Option, Some, None, option_map}
 use Rattle.std.specs.List.{filter, flat_map, list_any}
 use Rattle.std.specs.Fmt.{decimal}
@@ -25,18 +24,18 @@ use Rattle.store.specs.declared.overviews.differences.Differences.{Differences}
 
 -- ---- the wards
 
--- a ward, its status, and, once it is declared, the elected candidates and all candidates
+-- a ward and its status; and, once it has been declared, the elected candidates and all candidates
 pub record WardView : Type 0 where
   pub ward : WardEntry
   pub status : StatusEntry
   pub elected : Option (List ℕ)
   pub candidates : List CandidateEntry
 
--- the elected candidates of a ward, once it is declared
+-- the elected candidates of a ward, once it has been declared
 abbrev pub declared_in : OfficeState → WardEntry → Option (List ℕ)
 declared_in s w = if is_declared w.phase then Some (elected_of (election_of s w)) else None
 
--- the candidates of a ward, once it is declared
+-- the candidates of a ward, once it has been declared
 abbrev pub candidates_told : OfficeState → WardEntry → List CandidateEntry
 candidates_told s w = if is_declared w.phase then candidates_of s w.number else []
 
@@ -49,14 +48,14 @@ ward_views s = map (ward_view_of s) s.wards
 
 -- ---- the batches of a ward
 
--- the standing of a batch: it is taken, or it differs; otherwise it waits for keyings
+-- the standing of a batch: taken, differing, or else waiting for keyings
 abbrev pub standing_by : List (List KeyedEntry) → BatchStanding
 standing_by keyings = if are_taken keyings then Taken else if differ keyings then Differing else Waiting
 
 abbrev pub standing_of : OfficeState → BatchEntry → BatchStanding
 standing_of s b = standing_by (keyings_now s b)
 
--- a clerk of a batch, and whether the clerk has keyed its current round
+-- a clerk of a batch, and whether that clerk has keyed the batch's current round
 abbrev pub clerk_view_of : OfficeState → BatchEntry → ℕ → ℕ × Bool
 clerk_view_of s b clerk = (clerk, is_keyed (keying_of s b.number b.round clerk))
 
@@ -109,7 +108,7 @@ batch_view_of s b = batch_view_with s b (twin_of s b)
 abbrev pub batch_views : OfficeState → ℕ → List BatchView
 batch_views s ward = map (batch_view_of s) (batches_of s ward)
 
--- the same for the ward with this number, if there is one
+-- the batches of the ward with the given number, if there is one, ordered by number
 abbrev pub batch_views_at : OfficeState → ℕ → Option (List BatchView)
 batch_views_at s ward = option_map (λ (w : WardEntry). batch_views s w.number) (ward_at s ward)
 
@@ -124,7 +123,7 @@ pub record PaperView : Type 0 where
 abbrev pub paper_view_of : List ℕ → List JudgedEntry → KeyedEntry → PaperView
 paper_view_of columns verdicts k = record { batch = k.batch; paper = k.paper; judgement = judgement_on columns verdicts k }
 
--- the papers on which the keyings agree, each as it is counted; empty if the batch isn't taken
+-- the papers on which the keyings agree, each as counted; empty if the batch isn't taken
 abbrev pub papers_in : List ℕ → Pile → List PaperView
 papers_in columns pile = map (paper_view_of columns pile.verdicts) (agreed pile.keyings)
 
@@ -144,7 +143,7 @@ papers_of s b = papers_by (candidates_of s b.ward) (pile_of s b)
 abbrev pub judgements_told : OfficeState → BatchEntry → List Judgement
 judgements_told s b = map (λ (p : PaperView). p.judgement) (papers_of s b).papers
 
--- the same for the batch with this number, if there is one
+-- whether the batch with the given number is taken, the candidates of its ward, and its papers; `None` if there is no such batch
 abbrev pub papers_at : OfficeState → ℕ → Option PapersView
 papers_at s batch = option_map (papers_of s) (batch_at s batch)
 
@@ -155,7 +154,7 @@ pub record DoubtfulView : Type 0 where
   pub counted : PaperView
   pub verdict : Option JudgedEntry
 
--- the verdict on the paper with this number, among the verdicts of a batch
+-- the verdict on the paper with the given number, among the verdicts of a batch
 abbrev pub verdict_on : List JudgedEntry → ℕ → Option JudgedEntry
 verdict_on verdicts paper = find (λ (v : JudgedEntry). v.paper == paper) verdicts
 
@@ -182,25 +181,25 @@ pub record DoubtfulPapersView : Type 0 where
 abbrev pub doubtful_papers : OfficeState → ℕ → DoubtfulPapersView
 doubtful_papers s ward = record { candidates = candidates_of s ward; papers = doubtful_views s ward }
 
--- the same for the ward with this number, if there is one
+-- the candidates and the doubtful papers of the ward with the given number, if there is one
 abbrev pub doubtful_at : OfficeState → ℕ → Option DoubtfulPapersView
 doubtful_at s ward = option_map (λ (w : WardEntry). doubtful_papers s w.number) (ward_at s ward)
 
 -- ---- differences
 
--- whether a keying has this paper with these marks
+-- whether a keying has the given paper with the same marks
 abbrev pub has_alike : KeyedEntry → List KeyedEntry → Bool
 has_alike k keying = list_any (λ (j : KeyedEntry). (j.paper == k.paper) && bytes_eq j.marks k.marks) keying
 
--- whether some other keying has the paper with different marks
+-- whether another keying has the paper with different marks
 abbrev pub differs_in : List (List KeyedEntry) → KeyedEntry → Bool
 differs_in others k = list_any (λ keying. not (has_alike k keying)) others
 
--- the numbers of the papers of a keying that some other keying has with different marks
+-- the numbers of the papers in a keying that another keying has with different marks
 abbrev pub differing_among : List (List KeyedEntry) → List KeyedEntry → List ℕ
 differing_among others keying = map (λ (k : KeyedEntry). k.paper) (filter (differs_in others) keying)
 
--- the numbers of the papers on which some keyings of a round differ: those that some other keying has with different marks than the first
+-- the numbers of the papers on which keyings of a round differ: those that another keying has with marks different from the first
 abbrev pub differing_papers : List (List KeyedEntry) → List ℕ
 differing_papers [] = []
 differing_papers (keying ∷ others) = differing_among others keying
@@ -217,7 +216,7 @@ differences_by b keyings = record { batch = b; differs = differ keyings; papers 
 abbrev pub differences_of : OfficeState → BatchEntry → DifferencesView
 differences_of s b = differences_by b (keyings_now s b)
 
--- the same for the batch with this number, if there is one
+-- the batch with the given number, if there is one, and its differences
 abbrev pub differences_at : OfficeState → ℕ → Option DifferencesView
 differences_at s batch = option_map (differences_of s) (batch_at s batch)
 

@@ -45,13 +45,13 @@ tables_of s = tables_with s (tabulation_of s)
 abbrev pub SeesState : OfficeState × TabulationEntries → State → Type 0
 SeesState x = Sees (tables_with x.0 x.1)
 
--- the contents are the tables of a state, and then those that result from a change and from what it adds to the tabulation
+-- the contents are first the tables of a state, then those that result from a change and its addition to the tabulation
 pub record ChangesTo (change : ChangeEntry) (addition : AdditionEntries) (before after : Contents) : Type 0 where
   pub old : OfficeState
   pub from : before ≡ tables_of old
   pub to : after ≡ tables_with (with_change change old) (with_addition addition (tabulation_of old))
 
--- the database contains exactly the tables of this state
+-- the database contains exactly the tables of the given state
 pub record HoldsState (db : Database) (s : OfficeState) : Type 0 where
   pub is : IsState s
   pub office : IsOffice (tables_of s) db
@@ -61,24 +61,24 @@ pub record StoresState (s : OfficeState) (trees : Trees) : Type 0 where
   pub is : IsState s
   pub stores : Stores (tables_of s) trees
 
--- everything that a stop may leave now is the tables of a state of this kind
+-- whatever a stop may leave now, it is the tables of a state of the given kind
 abbrev pub LeavesState : State → (OfficeState → Type 0) → Type 0
 LeavesState st P = (trees : Trees) → st.may_leave trees → (s : OfficeState) × P s × StoresState s trees
 
--- The store keeps this state: while its connection is open, it rests at the state's tables, and a stop leaves exactly those tables.
+-- The store keeps the given state: while its connection is open, it rests at the state's tables, and a stop leaves exactly those tables.
 pub record IsAt (s : OfficeState) (st : State) : Type 0 where
   pub is : IsState s
   pub rests : IsTrue st.is_open → Rests (tables_of s) st
   pub leaves : LeavesState st (λ x. x ≡ s)
 
--- No call sets a limit on the steps of a query or discards a fault of the disk, and only such a fault closes the connection.
+-- No call sets a limit on the steps of a query or discards a disk fault, and only such a fault closes the connection.
 pub record KeepsConnection (old new : State) : Type 0 where
   pub limit : new.step_limit ≡ old.step_limit
   pub counts : old.faults ≤ new.faults
   pub closes : HasCleanDisk new → IsTrue old.is_open → IsTrue new.is_open ⊎ MoreFaults old.faults new.faults
 
--- A transaction that writes an office. If the connection is in one of the states that the transaction accepts, it rests at these tables after the commit, and
--- a stop leaves either what it could have left before or these tables. The transaction is ended, and it fails only if an allocation or the store fails.
+-- A transaction that writes an office. If the connection is in one of the states that the transaction accepts, it rests at these tables after the commit, and a
+-- stop leaves either what it could have left before or these tables. The transaction has ended, and it fails only if an allocation or the store fails.
 pub record Commits {X V : Type 0} (old new : State) (result : Result V Fault) (Takes : X → State → Type 0) (tables : X → Contents) : Type 0 where
   pub done : HasCleanDisk new → (x : X) → Takes x old → OnOk result (Rests (tables x) new)
   pub survives : (x : X) → Takes x old → Survives old new (Stores (tables x))

@@ -17,7 +17,7 @@ tally_by keyings verdicts =
       doubtful_open = length (filter (is_open (map judged_entry verdicts)) (agreed (keyings_by keyings)));
     }
 
--- how many of these batches are taken, how many differ, and how many doubtful papers of the taken batches have no verdict; each number is exact if it is
+-- how many of the given batches are taken, how many differ, and how many doubtful papers in the taken batches have no verdict; each number is exact if it is
 -- below 2^64
 pub record IsTally (s : OfficeState) (batches : List BatchEntry) (tally : Tally) : Type 0 where
   pub taken : length (filter (is_taken s) batches) < 2 ^ 64 → tally.taken ≡ length (filter (is_taken s) batches)

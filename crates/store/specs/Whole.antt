@@ -15,9 +15,9 @@ use Rattle.tables.specs.Reading.{OnlyReads, FailsBy, FailsToList}
 use Rattle.store.specs.StateTables.{HoldsState, IsAt}
 use Rattle.store.specs.Openings.{IsLeftAt, IsFaultOf}
 
--- The rows that are read are those of a state (`is`), with the tabulation of its counts (`tabulates`), no matter how the database came about. They are those
--- of the state in the database: found by its rows alone (`found`), left there by a stop (`left`), or kept by an open office (`kept`). Otherwise a fault is
--- reported as when an office is opened, with its cause. No transaction is begun.
+-- The rows read are those of a state (`is`), with the tabulation of its counts (`tabulates`), however the database was made. They are those of the state in the
+-- database: found by its rows alone (`found`), left there by a stop (`left`), or kept by an open office (`kept`). Otherwise a fault is reported, as when an
+-- office is opened, with its cause. No transaction is begun.
 pub record ReadsOffice (old new : State) (result : Result Rows Fault) : Type 0 where
   pub is : IfOk result (λ rows. IsState (state_of rows))
   pub tabulates : IfOk result (λ rows. IsTabulationOf (tabulated rows) (state_of rows))

@@ -1,7 +1,7 @@
-//! What an open office keeps in memory about its batches: the overview of each, without its twin, and a checksum of its
-//! papers, which is used to find twins.
+//! What an open office keeps in memory about its batches: the overview of each batch, without its twin, and a checksum
+//! of its papers, used to find twins.
 //!
-//! Each entry of the cache includes the row of its batch. It is correct as long as no request changes anything else
+//! Each entry of the cache includes the row of its batch. It stays correct as long as no request changes anything else
 //! about that batch: its third clerk, its keyings, its verdicts, or the candidates of its ward. `forget` removes the
 //! entries that an effect may change, before the effect is stored. An entry is used only if the batch still has the
 //! same row.
@@ -17,12 +17,12 @@ use crate::overviews::batches::BatchOverview;
 use register::{Batch, Effect, KeyedPaper};
 use std::alloc::{AllocError, Global};
 
-/// The initial value of a checksum, and the factor that it is multiplied by before each byte is added.
+/// The initial value of a checksum, and the factor by which it is multiplied before each byte is added.
 const BEGINNING: u64 = 14695981039346656037;
 
 const FACTOR: u64 = 1099511628211;
 
-/// A cached batch: its overview without its twin; and, if the batch is taken, the checksum of its papers.
+/// A cached batch: its overview, without its twin, and, if the batch is taken, the checksum of its papers.
 #[derive(Drop)]
 pub(crate) struct CachedBatch {
     pub(crate) overview: BatchOverview,
@@ -100,8 +100,8 @@ pub(crate) fn copy_known(alloc: Global, known: &CachedBatch) -> Result<CachedBat
     })
 }
 
-/// Returns the first index, starting from `from`, of an entry whose batch has this number or a higher one. An index is
-/// only a hint where to look.
+/// Returns the first index, starting from `from`, of an entry whose batch has the given number or a higher one. An
+/// index is only a hint about where to look.
 pub(crate) fn next_place(known: &[CachedBatch], from: usize, number: u32) -> usize {
     for place in from..known.len() {
         if known[place].overview.batch.number >= number {
@@ -111,7 +111,7 @@ pub(crate) fn next_place(known: &[CachedBatch], from: usize, number: u32) -> usi
     known.len()
 }
 
-/// Returns the entry at this index, if its batch has this row.
+/// Returns the entry at index `place` if the row of its batch equals `batch`.
 pub(crate) fn known_at<'a>(
     known: &'a [CachedBatch],
     place: usize,
@@ -127,7 +127,7 @@ pub(crate) fn known_at<'a>(
     }
 }
 
-/// Removes the entry of the batch with this number.
+/// Removes the entry of the batch with the given number.
 fn forget_batch(known: &mut Vec<CachedBatch>, number: u32)
     ensures { known.new.items ≡ filter (λ k. not (k.overview.batch.number == number)) known.old.items }
 {
@@ -141,14 +141,14 @@ fn forget_ward(known: &mut Vec<CachedBatch>, ward: u32)
     known.retain(|one| one.overview.batch.ward != ward);
 }
 
-/// Returns whether all of these papers belong to the batch with this number.
+/// Returns whether all the given papers belong to the batch with the given number.
 fn are_of(papers: &[KeyedPaper], number: u32) -> bool
     ensures { result ≡ list_all (λ k. k.batch == number) papers.now }
 {
     papers.iter().all(|paper| paper.batch == number)
 }
 
-/// Returns the number of the batch that all of these papers belong to, if there is one.
+/// Returns the number of the batch to which all the given papers belong, if there is one.
 fn batch_of(papers: &[KeyedPaper]) -> Option<u32>
     ensures { IfSome result (λ number. list_all (λ k. k.batch == number) papers.now ≡ true) }
 {
@@ -160,7 +160,7 @@ fn batch_of(papers: &[KeyedPaper]) -> Option<u32>
     }
 }
 
-/// Returns a set of batches that includes all that an effect may affect.
+/// Returns a set of batches that includes every batch the effect may affect.
 fn affected_batches(effect: &Effect) -> AffectedBatches
     ensures { (b : BatchEntry) → concerns result b ≡ false → is_about (effect_entry effect.now) b ≡ false }
 {
@@ -182,7 +182,7 @@ fn affected_batches(effect: &Effect) -> AffectedBatches
     }
 }
 
-/// Removes all entries that an effect may change.
+/// Removes all entries that the effect may change.
 pub(crate) fn forget(known: &mut Vec<CachedBatch>, effect: &Effect)
     ensures { (s : OfficeState) (r : ReceiptEntry) → AreKnown s known.old.items
         → AreKnown (with_change (record { effect = effect_entry effect.now; receipt = r }) s) known.new.items }

@@ -1,16 +1,16 @@
 //! A store with a cache: what an open office keeps in memory about its batches.
 //!
 //! The invariant: while the connection is open, every entry of the cache is correct in the state that the store keeps.
-//! Each change leads from one state to the next, so the invariant needs an initial state. The contract of opening an
+//! Each change leads from one state to the next, so the invariant needs an initial state. The contract for opening an
 //! office ensures that there is one if the tables with our names are ours. The invariant doesn't rely on that premise:
-//! there is a cache only if the schema of the database was found to be exactly an office's (`schemas`). Otherwise, and
+//! there is a cache only if the database's schema was found to be exactly that of an office (`schemas`). Otherwise, and
 //! after `create`, everything is read from the tables.
 //!
 //! A read leaves the cache as it is, or refreshes it (`overviews::known`). Before a change is stored, every entry that
 //! it may change is removed (`batch_cache::forget`). If a change fails, the cache is dropped.
 //!
-//! Callers see none of this: in contracts a `CachedStore` is its connection, and each call has the clauses of the same
-//! call of `Store`.
+//! Callers see none of this: in contracts a `CachedStore` is its connection, and each function has the same clauses as
+//! the function of that name in `Store`.
 
 ghost use Rattle.std.specs.Prelude.{◌≡◌, ◌⊎◌, [], true, false, None, Err, IfOk, IfErr, IfSome, OnOk, IsTrue, MatchOption};
 ghost use Rattle.std.specs.Option.{IsSomeAnd};
@@ -66,7 +66,7 @@ impl<S: Alter> Model for CachedStore<S> {
     ghost invariant = { λ k. IsTied (state S.Store k.store) k.cache };
 }
 
-/// Removes from the cache, if there is one, everything that an effect may change.
+/// Removes from the cache, if there is one, everything that the effect may change.
 fn forget_in(memory: &mut Option<Vec<CachedBatch>>, effect: &Effect)
     ensures { MatchOption memory.old (memory.new ≡ None) (λ old. IsSomeAnd memory.new (λ new. (s : OfficeState) (r : ReceiptEntry) → AreKnown s old.items
         → AreKnown (with_change (record { effect = effect_entry effect.now; receipt = r }) s) new.items)) }
@@ -89,7 +89,7 @@ fn new_cache(alloc: Global, remembers: bool) -> Option<Vec<CachedBatch>>
 }
 
 /// Refreshes the cache, if there is one. If a row can't be read, the cache stays as it was: whatever isn't in it is
-/// read when it is needed.
+/// read when needed.
 fn refresh_cache<S: Alter>(store: &mut Store<S>, cache: &mut Option<Vec<CachedBatch>>)
     ensures reads { OnlyReads (state S.Store store.old) (state S.Store store.new) }
     ensures keeps { HasCleanDisk (state S.Store store.new) → (s : OfficeState) → IsAt s (state S.Store store.old) → IsAt s (state S.Store store.new) }
@@ -155,7 +155,7 @@ impl<S: Alter> CachedStore<S> {
         }
     }
 
-    /// Returns what the machine sees of the state for one request, as `Store::load_view` does.
+    /// Returns what the machine sees of the state for one request, just as `Store::load_view` does.
     pub fn load_view<'a>(
         &mut self,
         actor: u32,
@@ -175,7 +175,7 @@ impl<S: Alter> CachedStore<S> {
     }
 
     /// Writes a change in one transaction, as `Store::commit` does, and removes from the cache what the change may
-    /// affect. It must be a change that leads from the state that the store keeps to another state.
+    /// affect. The change must lead from the state that the store keeps to another state.
     pub fn commit(&mut self, change: &Change) -> Result<(), Fault>
         requires opened { IsOpen S.Store self.old }
         requires leads { HasCleanDisk (state S.Store self.old) → IsTrue (state S.Store self.old).is_open → (s : OfficeState) → IsAt s (state S.Store self.old)

@@ -1,4 +1,4 @@
-//! A clerk's work, and the text of the papers that the clerk keys, read from the tables.
+//! A clerk's work, and the text on the papers the clerk keys, read from the tables.
 
 ghost use Rattle.std.specs.Prelude.{◌≡◌, if◌then◌else◌, map, filter, option_map, Some, None};
 ghost use Rattle.register.specs.declared.phase.Phase.TheVariants.{Keying};
@@ -41,7 +41,7 @@ impl<S: Alter> Store<S> {
         })
     }
 
-    /// Returns a batch as a clerk's work, if it is one that the clerk keys.
+    /// Returns a batch as a clerk's work, if the clerk keys it.
     fn own_work(&mut self, batch: &Batch, clerk: u32) -> Result<Option<Work>, Fault>
         requires { IsOpen S.Store self.old }
         ensures { Loads S.Store self.old self.new result
@@ -59,7 +59,7 @@ impl<S: Alter> Store<S> {
         Ok(Some(work))
     }
 
-    /// Returns a clerk's work among these batches, which are read one after another.
+    /// Returns a clerk's work among the given batches, which are read one after another.
     fn work_in(&mut self, batches: &[Batch], clerk: u32) -> Result<Vec<Work>, Fault>
         requires { IsOpen S.Store self.old }
         ensures { Loads S.Store self.old self.new result (λ s found. map work_entry found.items ≡ map (work_on s clerk) (filter (is_work s clerk) (map batch_entry batches.now))) }
@@ -76,10 +76,10 @@ impl<S: Alter> Store<S> {
     }
 
     /// Returns the work of a clerk (1 to 999): the clerk's batches in wards that are in keying, ordered by number. Each
-    /// has the columns of its papers, and whether the clerk has keyed its current round. All batches are read at once.
-    /// Then the third clerk of each is read; and for each of the clerk's own batches, its ward, the candidates there,
-    /// and the first paper of the clerk's keying. Changes nothing, and doesn't add to the states that a stop may leave
-    /// behind. Returns `Memory` or `Store` if a row can't be read.
+    /// includes the columns of its papers, and whether the clerk has keyed its current round. All batches are read at
+    /// once. Then the third clerk of each is read, and, for each of the clerk's own batches, its ward, the candidates
+    /// there, and the first paper of the clerk's keying. Changes nothing, and doesn't add to the states that a stop may
+    /// leave behind. Returns `Memory` or `Store` if a row can't be read.
     pub fn load_work(&mut self, clerk: u32) -> Result<Vec<Work>, Fault>
         ensures { Loads S.Store self.old self.new result (λ s found. map work_entry found.items ≡ work_of s clerk) }
     {
@@ -88,7 +88,7 @@ impl<S: Alter> Store<S> {
         Ok(found)
     }
 
-    /// Returns the text of a batch's ballot papers, for one of its clerks.
+    /// Returns the text on a batch's ballot papers, for one of its clerks.
     fn own_paper(&mut self, batch: &Batch, clerk: u32) -> Result<Option<BallotPaper>, Fault>
         requires { IsOpen S.Store self.old }
         ensures { Loads S.Store self.old self.new result (λ s found. option_map paper_entry found ≡ paper_for s clerk (batch_entry batch.now)) }
@@ -105,9 +105,9 @@ impl<S: Alter> Store<S> {
         Ok(Some(BallotPaper { ward, candidates }))
     }
 
-    /// Returns the text of the ballot papers of the batch with this number, for one of its clerks: its ward, and the
-    /// candidates there. `None` if there is no such batch, or it isn't the clerk's. Changes nothing, and doesn't add to
-    /// the states that a stop may leave behind. Returns `Memory` or `Store` if a row can't be read.
+    /// Returns the text on the ballot papers of the batch with the given number, for one of its clerks: its ward, and
+    /// the candidates there. Returns `None` if there is no such batch or it isn't the clerk's. Changes nothing, and
+    /// doesn't add to the states that a stop may leave behind. Returns `Memory` or `Store` if a row can't be read.
     pub fn load_paper(&mut self, clerk: u32, batch: u32) -> Result<Option<BallotPaper>, Fault>
         ensures { Loads S.Store self.old self.new result (λ s found. option_map paper_entry found ≡ paper_at s clerk batch) }
     {

@@ -18,12 +18,12 @@ use std::alloc::Global;
 use tables::Fault;
 use tables::presence::has_some_table;
 
-/// How much an office contains, for comparing a copy with it.
+/// How much an office contains, for comparison with a copy.
 #[derive(Clone, Copy)]
 pub struct OfficeCounts {
     pub wards: usize,
     pub batches: usize,
-    /// The number of keyings, each of a batch by one clerk in one round; those of earlier rounds are included.
+    /// The number of keyings, each by one clerk of one batch in one round; those from earlier rounds are included.
     pub keyings: usize,
     pub receipts: usize,
 }
@@ -33,14 +33,15 @@ pub struct OfficeCounts {
 pub enum CopyFault {
     /// The fault that opening the office returns, or `Store` if its connection is inside a transaction.
     Office(Fault),
-    /// The database for the copy has a table with the name of one of ours, or is inside a transaction; nothing was written.
+    /// The database for the copy has a table with the name of one of ours, or its connection is inside a transaction;
+    /// nothing was written.
     Taken,
-    /// The copy couldn't be completed, because an allocation or its store failed: its database contains either nothing
+    /// The copy couldn't be completed because an allocation or its store failed; its database contains either nothing
     /// or the whole copy.
     Copy(Fault),
 }
 
-/// Returns the number of keyings to which these papers belong: each keying has exactly one first paper.
+/// Returns the number of keyings to which the given papers belong: each keying has exactly one first paper.
 fn keyings_among(papers: &[KeyedPaper]) -> usize
     ensures { result ≡ length (filter is_first_paper (map keyed_entry papers.now)) }
 {
@@ -53,7 +54,7 @@ fn keyings_among(papers: &[KeyedPaper]) -> usize
     keyings
 }
 
-/// Returns how much is contained in the office with these rows.
+/// Returns how much the office with the given rows contains.
 fn holdings_of(rows: &Rows) -> OfficeCounts
     ensures { result ≡ holdings_of (state_of rows.now) }
 {
@@ -65,7 +66,7 @@ fn holdings_of(rows: &Rows) -> OfficeCounts
     }
 }
 
-/// Creates an office with these rows in one transaction.
+/// Creates an office with the given rows in one transaction.
 fn commit_copy<T: Alter>(alloc: Global, copy: &mut Connection<T>, rows: &Rows) -> Result<(), Fault>
     requires { copy.old.in_transaction ≡ false }
     ensures { Commits (state T.Store copy.old) (state T.Store copy.new) result (λ (x : ⊤). IsBlank) (λ x. tables_with (state_of rows.now) (tabulated rows.now)) }
@@ -79,7 +80,7 @@ fn commit_copy<T: Alter>(alloc: Global, copy: &mut Connection<T>, rows: &Rows) -
 /// Copies the office in one connection's database into that of another, which must be empty, in one transaction, and
 /// returns how much the copy contains. No office is open afterwards.
 ///
-/// The rows are checked first, as by `Store::open_from`, whose fault is returned as `Office`; the office is only read,
+/// The rows are first checked as in `Store::open_from`, whose fault is returned as `Office`; the office is only read,
 /// whatever the outcome. Returns `Taken` if the other database already has a table with the name of one of ours, or if
 /// the other connection is inside a transaction. In these cases the other database is unchanged. After `Copy` it is
 /// either unchanged or contains the whole copy.

@@ -1,4 +1,4 @@
-//! A clerk's own keying of a batch in an earlier round, read from the tables.
+//! A clerk's own keying of a batch from an earlier round, read from the tables.
 
 ghost use Rattle.std.specs.Prelude.{◌≡◌, option_map};
 ghost use Rattle.register.specs.Offices.{batch_entry};
@@ -12,7 +12,7 @@ use register::{Batch, KeyedPaper};
 use sqlite::Alter;
 use tables::Fault;
 
-/// A round (1 to 99) of a batch that a clerk keyed, and the papers in order, as the clerk keyed them.
+/// A round (1 to 99) of a batch that a clerk keyed, and the papers, in order, as the clerk keyed them.
 #[derive(Drop)]
 pub struct KeyedRound {
     pub round: u32,
@@ -20,7 +20,7 @@ pub struct KeyedRound {
 }
 
 impl<S: Alter> Store<S> {
-    /// Returns the latest of the first `rounds` rounds of a batch that a clerk keyed, if there is one.
+    /// Returns the latest of a batch's first `rounds` rounds that the clerk keyed, if there is one.
     fn last_keyed(
         &mut self,
         batch: u32,
@@ -41,8 +41,7 @@ impl<S: Alter> Store<S> {
         Ok(None)
     }
 
-    /// Returns the keying of a batch by one of its clerks, in the latest round before the current one that the clerk
-    /// keyed.
+    /// Returns a clerk's keying of a batch from the latest round before the current one that the clerk keyed.
     fn own_earlier(
         &mut self,
         batch: &Batch,
@@ -60,11 +59,11 @@ impl<S: Alter> Store<S> {
         Ok(Some(keyed))
     }
 
-    /// Returns the keying of the batch with this number by one of its clerks, in the latest round before the current
-    /// one that the clerk keyed: the round, and the papers in order. The inner `None` means that the clerk keyed no
-    /// earlier round; the outer one, that there is no such batch, or that it isn't the clerk's. The rounds are read one
-    /// after another, the latest first. Changes nothing, and doesn't add to the states that a stop may leave behind.
-    /// Returns `Memory` or `Store` if a row can't be read.
+    /// Returns a clerk's keying of the batch with the given number from the latest round before the current one that
+    /// the clerk keyed: the round, and the papers in order. The inner `None` means that the clerk keyed no earlier
+    /// round; the outer one, that there is no such batch, or that it isn't the clerk's. The rounds are read one after
+    /// another, latest first. Changes nothing, and doesn't add to the states that a stop may leave behind. Returns
+    /// `Memory` or `Store` if a row can't be read.
     pub fn load_earlier_keying(
         &mut self,
         clerk: u32,

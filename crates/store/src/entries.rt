@@ -1,4 +1,4 @@
-//! The entries that the rows of each table represent.
+//! The entries represented by the rows of each table.
 
 ghost use Rattle.std.specs.Prelude.{◌≡◌, pos, IfOk, IfErr};
 ghost use Rattle.sqlite.specs.Value.{owned};
@@ -19,8 +19,8 @@ use sqlite_value::value::ValueRef;
 use tables::Fault;
 use tables::value_conversion::amount;
 
-/// Returns a number of units as a parameter. `Memory` if a column can't hold it: no machine has enough memory for so
-/// many papers.
+/// Returns a number of units as a parameter. Returns `Memory` if a column can't hold it: no machine has enough memory
+/// for so many papers.
 fn units<'a>(n: u64) -> Result<ValueRef<'a>, Fault>
     ensures value { IfOk result (λ value. owned value ≡ Int (pos n)) }
     ensures cause { IfErr result (λ f. f ≡ Fault.Memory) }

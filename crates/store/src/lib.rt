@@ -8,9 +8,9 @@
 //! round. `load_sheet` and `load_counted` read the data from which a ward's sheet and declaration are written, and
 //! `load_book` reads the ward's stored count. `load_wards`, `load_batches`, `load_doubtful`, `load_batch_papers`,
 //! `load_differences` and `load_receipts` read the overviews. `load_differs_from_stored` compares a repeated request
-//! with the data that is stored for it. `migrate` brings an office, made by an earlier program, up to this version, and
-//! `copy` copies an office into another database. `read_office` reads a whole office. `Store::copy_to` and
-//! `Store::rows` do the same for an open office. `Fault` is the reason why a call failed.
+//! with the data stored for it. `migrate` upgrades an office made by an earlier program to this version, and `copy`
+//! copies an office into another database. `read_office` reads a whole office. `Store::copy_to` and `Store::rows` do
+//! the same for an open office. A `Fault` says why a call failed.
 //!
 //! ```text
 //! let mut store = Store::open_from(alloc, conn)?;
@@ -18,7 +18,7 @@
 //! store.commit(&change)?;
 //! ```
 //!
-//! The crate `tables` has the statements on any table; this crate defines the rows of a state.
+//! The crate `tables` has the statements that work on any table; this crate defines the rows of a state.
 #![tactic(auto)]
 
 mod batch_cache;

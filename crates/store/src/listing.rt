@@ -1,4 +1,4 @@
-//! All entries of the tables, as they are read when an office is opened.
+//! All entries of the tables, as read when an office is opened.
 
 ghost use Rattle.std.specs.Prelude.{◌≡◌, false, [], IfOk};
 ghost use Rattle.register.specs.Offices.{MapsAreSorted};
@@ -25,7 +25,7 @@ use std::alloc::Global;
 use tables::Fault;
 use tables::listing::all_entries;
 
-/// The batches of ballot papers, and the keyed and the judged papers.
+/// The batches of ballot papers, along with the keyed and the judged papers.
 #[derive(Drop)]
 struct Papers {
     batches: Vec<Batch>,
@@ -33,7 +33,7 @@ struct Papers {
     verdicts: Vec<JudgedPaper>,
 }
 
-/// Returns a database's batches and their papers. `Damaged` if the rows are not those of any state.
+/// Returns a database's batches and their papers. Returns `Damaged` if no state has these rows.
 fn all_papers<S: Alter>(alloc: Global, conn: &mut Connection<S>) -> Result<Papers, Fault>
     requires { conn.old.in_transaction ≡ false }
     ensures lists { Lists S.Store conn.old conn.new result (λ db. BeginsFirst 8 db.schema) ListsPapers (TellsStrange 8) }
@@ -49,8 +49,8 @@ fn all_papers<S: Alter>(alloc: Global, conn: &mut Connection<S>) -> Result<Paper
     })
 }
 
-/// Returns the entries of the first eight tables of a database, each table's in key order. `Damaged` if the rows are
-/// not those of any state.
+/// Returns the entries of the first eight tables of a database, each table's in key order. Returns `Damaged` if no
+/// state has these rows.
 pub(crate) fn first_rows<S: Alter>(alloc: Global, conn: &mut Connection<S>) -> Result<Rows, Fault>
     requires { conn.old.in_transaction ≡ false }
     ensures lists { Lists S.Store conn.old conn.new result (λ db. BeginsFirst 8 db.schema) (λ db rows. ListsFirst 8 db (state_of rows) (tabulated rows)) (TellsStrange 8) }
@@ -81,7 +81,7 @@ pub(crate) fn first_rows<S: Alter>(alloc: Global, conn: &mut Connection<S>) -> R
     })
 }
 
-/// Returns the entries of the first ten tables in the same way, including the tabulation of the counts.
+/// Returns the entries of the first ten tables the same way, including the tabulation of the counts.
 pub(crate) fn counted_rows<S: Alter>(alloc: Global, conn: &mut Connection<S>) -> Result<Rows, Fault>
     requires { conn.old.in_transaction ≡ false }
     ensures lists { Lists S.Store conn.old conn.new result (λ db. BeginsFirst 10 db.schema) (λ db rows. ListsFirst 10 db (state_of rows) (tabulated rows)) (TellsStrange 10) }
@@ -96,8 +96,8 @@ pub(crate) fn counted_rows<S: Alter>(alloc: Global, conn: &mut Connection<S>) ->
     Ok(rows)
 }
 
-/// Returns the entries of all tables of a database, each table's in key order. `Damaged` if the rows are not those of
-/// any state.
+/// Returns the entries of all tables of a database, each table's in key order. Returns `Damaged` if no state has these
+/// rows.
 pub(crate) fn all_rows<S: Alter>(alloc: Global, conn: &mut Connection<S>) -> Result<Rows, Fault>
     requires { conn.old.in_transaction ≡ false }
     ensures lists { Lists S.Store conn.old conn.new result (λ db. IsOfficeSchema db.schema) (λ db rows. ListsMaps db (state_of rows) (tabulated rows)) TellsNoState }

@@ -1,4 +1,4 @@
-//! Migrates an office that an earlier program made.
+//! Migrates an office made by an earlier program.
 
 ghost use Rattle.std.specs.Prelude.{◌≡◌, ◌⊎◌, false, Err, IfOk, IfErr};
 ghost use Rattle.sqlite.specs.Effect.{Database, IsDatabase};
@@ -67,7 +67,7 @@ fn migrate_older<S: Alter>(alloc: Global, conn: &mut Connection<S>) -> Result<Mi
     Ok(Migrated::Done)
 }
 
-/// Opens an office as `open_from` does, and migrates it if it turns out to be one that an earlier program made.
+/// Opens an office as `open_from` does, and migrates it if it turns out to have been made by an earlier program.
 fn open_or_migrate<S: Alter>(alloc: Global, conn: &mut Connection<S>) -> Result<Migrated, Fault>
     requires { conn.old.in_transaction ≡ false }
     ensures opened { HasCleanDisk (state S.Store conn.new) → (db : Database) → IsOurs db.schema → IsOlderSchema db.schema → RestsAt db (state S.Store conn.old)
@@ -95,7 +95,7 @@ fn open_or_migrate<S: Alter>(alloc: Global, conn: &mut Connection<S>) -> Result<
 }
 
 /// Does nothing; it is a lemma for callers. Older rows determine their state: states with equal older tables of the
-/// same form are equal, so a database represents at most one of them. What a stop left of an older office can be
+/// same form are equal, so a database represents at most one of them. What a stop has left of an older office can be
 /// identified again.
 fn older_tables_determine_states()
     ensures equal { (form : OlderForm) (s t : OfficeState) → IsOlderState s → IsOlderState t → SameContents (older_tables form s) (older_tables form t) → s ≡ t }
@@ -103,16 +103,17 @@ fn older_tables_determine_states()
     ensures again { (form : OlderForm) (s : OfficeState) (db : Database) → IsDatabase db → StoresOlder form s db.trees → HoldsOlder form db s }
 {}
 
-/// Migrates an office, made by an earlier program, to this program's version. One transaction creates the tables that
-/// the office lacks, inserts the rows of the tabulation of its counts, and sets the version. Everything that was
-/// accepted remains, with its receipts. No office is open afterwards.
+/// Migrates an office made by an earlier program to this program's version. One transaction creates the tables that the
+/// office lacks, inserts the rows of the tabulation of its counts, and sets the version. Everything that was accepted
+/// remains, with its receipts. No office is open afterwards.
 ///
-/// The rows are checked first, as by `Store::open_from`; those of an older office are checked against the conditions
+/// The rows are first checked as in `Store::open_from`; those of an older office are checked against the conditions
 /// that applied to it. If the office already has this program's version, nothing else is done and nothing is changed.
-/// `WrongDatabase` and `NewerSchema` are returned as by `open_from`. Returns `Damaged` if the rows are not the tables
-/// of any state, or if there is a table missing or one too many; then nothing is changed. After `Memory` or `Store` an
-/// older office is either unchanged or completely migrated; if there was no older office, nothing is changed. Returns
-/// `Store` if the store failed, if rowids aren't distinct integers, or if the connection is inside a transaction.
+/// `WrongDatabase` and `NewerSchema` are returned just as `open_from` returns them. Returns `Damaged` if the rows don't
+/// form the tables of any state, if a table is missing, or if there is an extra one; in that case nothing is changed.
+/// After `Memory` or `Store` an older office is either unchanged or completely migrated; if there was no older office,
+/// nothing is changed. Returns `Store` if the store failed, if rowids aren't distinct integers, or if the connection is
+/// inside a transaction.
 pub fn migrate<S: Alter>(alloc: Global, conn: &mut Connection<S>) -> Result<Migrated, Fault>
     ensures { Migrates S.Store conn.old conn.new result }
 {

@@ -1,4 +1,4 @@
-//! An office that an earlier program made: its tables, and the state that they represent.
+//! An office made by an earlier program: its tables, and the state they represent.
 
 ghost use Rattle.std.specs.Prelude.{◌≡◌, ◌≢◌, false, [], IfOk, IfErr, IfSome, IfNone, OnOk, IsTrue};
 ghost use Rattle.std.specs.List.{list_any};
@@ -30,9 +30,9 @@ use tables::presence::{TablesPresent, tables_present};
 /// The set of tables that an older office has.
 #[derive(Clone, Copy, PartialEq, Eq)]
 pub enum OlderForm {
-    /// All tables but that of third clerks.
+    /// All tables except the one for third clerks.
     WithCounts,
-    /// As in `WithCounts`, but also without the two tables for the tabulation of the counts.
+    /// Like `WithCounts`, but also without the two tables for the tabulation of the counts.
     WithoutCounts,
 }
 
@@ -43,7 +43,7 @@ pub(crate) struct Older {
     pub(crate) missing: Addition,
 }
 
-/// Returns which tables a database has, if they are those of an older office.
+/// Returns which of the tables a database has, if they are those of an older office.
 fn older_form<S: Alter>(conn: &Connection<S>) -> Option<OlderForm>
     ensures some { IfSome result (λ form. tables_present (state S.Store conn.now).now.schema ≡ name_of form) }
     ensures none { IfNone result ((form : OlderForm) → tables_present (state S.Store conn.now).now.schema ≢ name_of form) }
@@ -57,8 +57,8 @@ fn older_form<S: Alter>(conn: &Connection<S>) -> Option<OlderForm>
     }
 }
 
-/// Returns the entries of an older office's tables, each table's in key order. `Damaged` if the rows are not those of
-/// any state.
+/// Returns the entries of an older office's tables, each table's in key order. Returns `Damaged` if no state has these
+/// rows.
 fn older_rows<S: Alter>(
     alloc: Global,
     conn: &mut Connection<S>,
@@ -76,7 +76,7 @@ fn older_rows<S: Alter>(
     }
 }
 
-/// Returns whether a receipt is about a third clerk; no earlier program had that subject.
+/// Returns whether a receipt is about a third clerk, a subject that no earlier program had.
 fn is_about_third(subject: &str) -> bool
     ensures { result ≡ is_about_third subject.now }
 {
@@ -92,7 +92,7 @@ fn are_about_thirds(receipts: &[Receipt]) -> bool
         .any(|receipt| is_about_third(&receipt.subject))
 }
 
-/// Returns the part of the tabulation that an office of this form lacks, if the part that it has is correct.
+/// Returns the part of the tabulation that an office of the given form lacks, if the part it has is correct.
 fn missing_tabulation(
     alloc: Global,
     form: OlderForm,
@@ -120,8 +120,8 @@ fn missing_tabulation(
     }
 }
 
-/// Returns what an older office lacks, if its rows, which are in key order, are those of a state: they meet every
-/// condition, and no receipt is about a third clerk. The only error is `Memory`.
+/// Returns what an older office lacks, if its rows, which are in key order, are those of a state, that is, if they meet
+/// every condition and no receipt is about a third clerk. The only error is `Memory`.
 fn missing_of(alloc: Global, form: OlderForm, rows: &Rows) -> Result<Option<Addition>, Fault>
     requires rise { MapsAreSorted (state_of rows.now) }
     requires bare { IsBare form (state_of rows.now) (tabulated rows.now) }
@@ -139,7 +139,7 @@ fn missing_of(alloc: Global, form: OlderForm, rows: &Rows) -> Result<Option<Addi
     }
 }
 
-/// Reads an older office of this form, and checks its rows.
+/// Reads an older office of the given form, and checks its rows.
 fn read_form<S: Alter>(
     alloc: Global,
     conn: &mut Connection<S>,
@@ -164,8 +164,8 @@ fn read_form<S: Alter>(
     }
 }
 
-/// Reads an older office, and changes nothing. `Damaged` if the tables of the database are not those of an older
-/// office, or if the rows are not those of any state.
+/// Reads an older office, and changes nothing. Returns `Damaged` if the database's tables are not those of an older
+/// office, or if no state has these rows.
 pub(crate) fn read_older<S: Alter>(alloc: Global, conn: &mut Connection<S>) -> Result<Older, Fault>
     requires { conn.old.in_transaction ≡ false }
     ensures found { HasCleanDisk (state S.Store conn.new) → (db : Database) → IsOlderSchema db.schema → HasVersion 1 db → RestsAt db (state S.Store conn.old)

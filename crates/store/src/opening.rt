@@ -30,7 +30,7 @@ use tables::presence::{has_every_table, has_table};
 use tables::value_conversion::integer_at;
 use tables::{Fault, Table};
 
-/// Checks that the row is that of an office of this program's version.
+/// Checks that the row is that of an office with this program's version.
 fn check_row(row: &Row) -> Result<(), Fault>
     ensures version { OnOk result (IsVersion this_version row.now) }
     ensures told { IfErr result (FaultOfRow row.now) }
@@ -52,7 +52,7 @@ fn check_row(row: &Row) -> Result<(), Fault>
     Ok(())
 }
 
-/// Checks that there is exactly one row, that of an office of this program's version.
+/// Checks that there is exactly one row, that of an office with this program's version.
 fn check_rows(rows: &[Row]) -> Result<(), Fault>
     ensures version { OnOk result ((row : _) × (rows.now ≡ row ∷ []) × IsVersion this_version row) }
     ensures told { IfErr result (FaultOfRows rows.now) }
@@ -88,7 +88,7 @@ fn check_office<S: Alter>(alloc: Global, conn: &mut Connection<S>) -> Result<(),
     Ok(())
 }
 
-/// Returns the tabulation of the counts, if these maps, which are in key order, are a state. The only error is
+/// Returns the tabulation of the counts if the given maps, which are in key order, form a state. The only error is
 /// `Memory`.
 pub(crate) fn tabulation_of_state(alloc: Global, rows: &Rows) -> Result<Option<Tabulation>, Fault>
     requires { MapsAreSorted (state_of rows.now) }
@@ -121,8 +121,8 @@ pub(crate) fn tabulation_of_state(alloc: Global, rows: &Rows) -> Result<Option<T
     }
 }
 
-/// Returns whether these maps, which are in key order, are a state with this tabulation of its counts. The only error
-/// is `Memory`.
+/// Returns whether the given maps, which are in key order, form a state with the given tabulation of its counts. The
+/// only error is `Memory`.
 fn are_of_state(alloc: Global, rows: &Rows) -> Result<bool, Fault>
     requires { MapsAreSorted (state_of rows.now) }
     ensures some { IfOk result (λ yes. yes ≡ true → IsTabulatedAs (state_of rows.now) (tabulated rows.now)) }
@@ -136,7 +136,7 @@ fn are_of_state(alloc: Global, rows: &Rows) -> Result<bool, Fault>
     }
 }
 
-/// Returns the rows of all tables but the office table, after checking that they are those of a state.
+/// Returns the rows of all tables except the office table, after checking that they are those of a state.
 fn checked_tables<S: Alter>(alloc: Global, conn: &mut Connection<S>) -> Result<Rows, Fault>
     requires { conn.old.in_transaction ≡ false }
     ensures holds { HasCleanDisk (state S.Store conn.new) → (db : Database) → IsOfficeSchema db.schema → IsDatabase db → RestsAt db (state S.Store conn.old)
@@ -159,7 +159,7 @@ fn checked_tables<S: Alter>(alloc: Global, conn: &mut Connection<S>) -> Result<R
     }
 }
 
-/// Returns the rows of the office in the database, checked as by `check`.
+/// Returns the rows of the office in the database, checked as `check` does.
 pub(crate) fn checked_rows<S: Alter>(alloc: Global, conn: &mut Connection<S>) -> Result<Rows, Fault>
     requires { conn.old.in_transaction ≡ false }
     ensures holds { HasCleanDisk (state S.Store conn.new) → (db : Database) → IsOurs db.schema → RestsAt db (state S.Store conn.old)
@@ -189,8 +189,8 @@ pub(crate) fn checked_rows<S: Alter>(alloc: Global, conn: &mut Connection<S>) ->
 /// Checks that the database is the office of a state, by its rows alone, and changes nothing. Faults are returned in
 /// this order. `WrongDatabase` if there is no office table or no row in it. `Damaged` if that table is not an office's.
 /// `OlderSchema` if its version is 1, and `NewerSchema` if it is above 2, before any other table is read. Then
-/// `Damaged` if a table is missing or the rows are not those of any state. `Memory` may be returned at any point, and
-/// so may `Store`, if the store failed or rowids aren't distinct integers.
+/// `Damaged` if a table is missing or no state has these rows. `Memory` may be returned at any point, and so may
+/// `Store`, if the store failed or rowids aren't distinct integers.
 pub fn check<S: Alter>(alloc: Global, conn: &mut Connection<S>) -> Result<(), Fault>
     requires { conn.old.in_transaction ≡ false }
     ensures holds { HasCleanDisk (state S.Store conn.new) → (db : Database) → IsOurs db.schema → RestsAt db (state S.Store conn.old)

@@ -1,5 +1,5 @@
-//! Overviews for the office alone, read from the tables: its wards; the batches of a ward, and their papers as they are
-//! counted; its doubtful papers; where the keyings of a batch differ; and the receipts.
+//! Overviews for the office only, read from the tables: its wards; the batches of a ward, and their papers as counted;
+//! its doubtful papers; where the keyings of a batch differ; and the receipts.
 
 pub mod batches;
 pub mod clerks;

@@ -1,4 +1,4 @@
-//! Compares a repeated request with the data that is stored for it.
+//! Compares a repeated request with the data stored for it.
 
 ghost use Rattle.std.specs.Prelude.{◌≡◌, not, ◌&&◌, map, IfOk, IfErr, string_bytes};
 ghost use Rattle.std.specs.List.{list_any};
@@ -28,7 +28,7 @@ use tables::Fault;
 const OFFICE: u32 = 0;
 
 impl<S: Alter> Store<S> {
-    /// Returns whether the ward with this number has a different number of seats or a different name.
+    /// Returns whether the ward with the given number has a different number of seats or a different name.
     fn ward_differs(&mut self, ward: u32, seats: u32, name: &str) -> Result<bool, Fault>
         ensures { Loads S.Store self.old self.new result (λ s found. found ≡ not (is_there (is_ward_of seats name.now) (ward_at s ward))) }
     {
@@ -36,7 +36,7 @@ impl<S: Alter> Store<S> {
         Ok(!is_ward_of(&found, seats, name))
     }
 
-    /// Returns whether a candidate with this number has withdrawn from a ward.
+    /// Returns whether a candidate with the given number has withdrawn from a ward.
     fn candidate_withdrew(&mut self, ward: u32, candidate: u32) -> Result<bool, Fault>
         ensures { Loads S.Store self.old self.new result (λ s found. found ≡ has_withdrawn s ward candidate) }
     {
@@ -47,7 +47,7 @@ impl<S: Alter> Store<S> {
         }
     }
 
-    /// Returns whether a candidate of a ward has a different name, and no candidate with that number has withdrawn. The
+    /// Returns whether a candidate of a ward has a different name and no candidate with that number has withdrawn. The
     /// receipts are read only if the name differs.
     fn candidate_differs(&mut self, ward: u32, candidate: u32, name: &str) -> Result<bool, Fault>
         ensures { Loads S.Store self.old self.new result (λ s found. found ≡ (is_there (has_other_name name.now) (candidate_at s ward candidate) && not (has_withdrawn s ward candidate))) }
@@ -81,7 +81,7 @@ impl<S: Alter> Store<S> {
         Ok(!is_third_clerk(clerk, &found))
     }
 
-    /// Returns whether a clerk's keying of a batch in a round has different papers.
+    /// Returns whether the stored keying has different papers from the command's.
     fn keying_differs(&mut self, clerk: u32, command: &KeyingCommand) -> Result<bool, Fault>
         ensures { Loads S.Store self.old self.new result (λ s found. found ≡ is_keying_otherwise s clerk command.now) }
     {
@@ -97,7 +97,7 @@ impl<S: Alter> Store<S> {
         Ok(!is_judged_alike(&found, command))
     }
 
-    /// Returns whether the lot of a ward at a stage drew a different candidate.
+    /// Returns whether the lot drawn in a ward at the given stage fell on a different candidate.
     fn lot_differs(&mut self, ward: u32, stage: u32, candidate: u32) -> Result<bool, Fault>
         ensures { Loads S.Store self.old self.new result (λ s found. found ≡ not (list_any (is_drawn stage candidate) (lots_of s ward))) }
     {
@@ -105,9 +105,9 @@ impl<S: Alter> Store<S> {
         Ok(!is_drawn(&lots, stage, candidate))
     }
 
-    /// Returns whether a repeated request differs from the data that is stored for it. Nothing is read if the request's
-    /// subject contains all of the request. Changes nothing, and doesn't add to the states that a stop may leave
-    /// behind. Returns `Memory` or `Store` if a row can't be read.
+    /// Returns whether a repeated request differs from the data stored for it. Nothing is read if the request's subject
+    /// contains the whole request. Changes nothing, and doesn't add to the states that a stop may leave behind. Returns
+    /// `Memory` or `Store` if a row can't be read.
     pub fn load_differs_from_stored(&mut self, request: &Request) -> Result<bool, Fault>
         ensures shows { HasCleanDisk (state S.Store self.new) → (s : OfficeState) → IsAt s (state S.Store self.old) → IfOk result (λ found. found ≡ is_kept_otherwise s request.now) }
         ensures cause { HasCleanDisk (state S.Store self.new) → (s : OfficeState) → IsAt s (state S.Store self.old) → IfErr result (FailsBy (state S.Store self.old) (state S.Store self.new)) }

@@ -1,8 +1,8 @@
 //! Checks whether a database has exactly the tables of an office.
 //!
-//! When an office is opened, only the names of tables are compared; that the tables with our names are ours is a
-//! premise of opening. Here it is checked: an office is created in memory, and the schema of the database is compared
-//! with its schema, definition by definition. A database that also has other tables isn't recognised.
+//! When an office is opened, only the names of tables are compared; opening assumes that the tables with our names are
+//! ours. This module checks it: an office is created in memory, and the schema of the database is compared with its
+//! schema, definition by definition. A database that also has other tables isn't recognised.
 
 ghost use Rattle.std.specs.Prelude.{◌≡◌, true, IfOk, IsTrue};
 ghost use Rattle.sqlite.specs.Held.{state};
@@ -23,7 +23,7 @@ use tables::Fault;
 
 /// A part of a schema that can be compared with another.
 trait Alike {
-    /// Returns true only if this is the same as `other`; false doesn't mean that they differ.
+    /// Returns true only if `self` is the same as `other`; false doesn't mean that they differ.
     fn is_same(&self, other: &Self) -> bool
         ensures { result ≡ true → self.now ≡ other.now };
 }
@@ -153,7 +153,7 @@ fn same_names(one: &Table, other: &Table) -> bool
         && one.is_counted == other.is_counted
 }
 
-/// Returns true only if two tables have the same columns, and the same columns are unique in both.
+/// Returns true only if two tables have the same columns, with the same ones unique in both.
 fn same_columns(one: &Table, other: &Table) -> bool
     ensures { result ≡ true → (one.now.columns ≡ other.now.columns) × (one.now.primary ≡ other.now.primary) × (one.now.uniques ≡ other.now.uniques) × (one.now.orders ≡ other.now.orders) }
 {
@@ -235,7 +235,7 @@ fn has_office_schema<S: Alter>(alloc: Global, conn: &Connection<S>) -> bool
     }
 }
 
-/// Returns whether a connection is outside a transaction, and its database has the tables of an office and no others.
+/// Returns whether a connection is outside a transaction and its database has the tables of an office and no others.
 pub(crate) fn may_be_remembered<S: Alter>(alloc: Global, conn: &Connection<S>) -> bool
     ensures schema { result ≡ true → IsOfficeSchema (state S.Store conn.now).now.schema }
     ensures rests { result ≡ true → IsTrue (state S.Store conn.now).is_open → RestsAt (state S.Store conn.now).now (state S.Store conn.now) }

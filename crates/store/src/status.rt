@@ -27,7 +27,7 @@ use register::{Ballots, Batch, CountedWard, JudgedPaper, NextStep, Phase, Status
 use sqlite::Alter;
 use tables::Fault;
 
-/// A tally of batches: how many are taken, how many differ, and how many doubtful papers of the taken batches have no
+/// A tally of batches: how many are taken, how many differ, and how many doubtful papers in the taken batches have no
 /// verdict.
 #[derive(Clone, Copy)]
 pub(crate) struct Tally {
@@ -36,15 +36,15 @@ pub(crate) struct Tally {
     pub(crate) doubtful_open: usize,
 }
 
-/// Returns 1 if the condition holds, otherwise 0.
+/// Returns 1 if the condition holds and 0 otherwise.
 fn count_of(it_is: bool) -> usize
     ensures { result ≡ (if it_is then 1 else 0) }
 {
     if it_is { 1 } else { 0 }
 }
 
-/// Returns the sum of two tallies, saturating at the largest number. No office reaches it: there are at most 9999
-/// batches of 500 papers.
+/// Returns the sum of two tallies, saturating at the largest number. No office reaches that number: there are at most
+/// 9999 batches of 500 papers.
 pub(crate) fn both(some: Tally, others: Tally) -> Tally
     ensures taken { result.taken ≡ min (some.taken + others.taken) (2 ^ 64 - 1) }
     ensures differing { result.differing ≡ min (some.differing + others.differing) (2 ^ 64 - 1) }
@@ -69,7 +69,7 @@ fn standing(keyings: &Keyings, verdicts: &[JudgedPaper]) -> Tally
     }
 }
 
-/// Returns what is due in the count of a ward that has been sealed. The count of an uncontested ward is finished.
+/// Returns what the count of a sealed ward requires next. The count of an uncontested ward is finished.
 fn due_in(counted: &CountedWard) -> Due
     ensures { (e : ElectionEntry) → IsCountedWard e counted.now → is_counted e.ward.phase ≡ true → result ≡ due_of e }
 {
@@ -88,7 +88,7 @@ impl<S: Alter> Store<S> {
         Ok(standing(&papers.keyings, &papers.verdicts))
     }
 
-    /// Returns the tally of these batches, which are read one after another.
+    /// Returns the tally of the given batches, which are read one after another.
     fn tally_all(&mut self, batches: &[Batch]) -> Result<Tally, Fault>
         requires { IsOpen S.Store self.old }
         ensures { Loads S.Store self.old self.new result (λ s. IsTally s (map batch_entry batches.now)) }
@@ -124,9 +124,9 @@ impl<S: Alter> Store<S> {
         })
     }
 
-    /// Returns the status of the ward with this number, if there is one. Its batches are read one after another, each
-    /// with its keyings of the current round and the verdicts on its papers. Changes nothing, and doesn't add to the
-    /// states that a stop may leave behind. Returns `Memory` or `Store` if a row can't be read.
+    /// Returns the status of the ward with the given number, if there is one. Its batches are read one after another,
+    /// each with its keyings of the current round and the verdicts on its papers. Changes nothing, and doesn't add to
+    /// the states that a stop may leave behind. Returns `Memory` or `Store` if a row can't be read.
     pub fn load_status(&mut self, ward: u32) -> Result<Option<Status>, Fault>
         ensures { Loads S.Store self.old self.new result (λ s found. option_map status_entry found ≡ status_at s ward) }
     {
@@ -140,8 +140,8 @@ impl<S: Alter> Store<S> {
         }
     }
 
-    /// Returns the next step in a ward that was found with its count. If its papers are still being keyed, they are
-    /// read to find it.
+    /// Returns the next step in the given ward, which was found with its count. If the ward's papers are still being
+    /// keyed, they are read to find that step.
     pub(crate) fn step_in(&mut self, found: CountedWard) -> Result<NextStep, Fault>
         requires { IsOpen S.Store self.old }
         ensures { Loads S.Store self.old self.new result (λ s step. (w : WardEntry) → IsCountedWard (election_of s w) found → step_entry step ≡ next_of s w) }
@@ -164,9 +164,9 @@ impl<S: Alter> Store<S> {
         }
     }
 
-    /// Returns the next step in the ward with this number, if there is one. Once the ward is sealed and has a stage, no
-    /// papers are read. Changes nothing, and doesn't add to the states that a stop may leave behind. Returns `Memory`
-    /// or `Store` if a row can't be read.
+    /// Returns the next step in the ward with the given number, if there is one. Once the ward is sealed and has a
+    /// stage, no papers are read. Changes nothing, and doesn't add to the states that a stop may leave behind. Returns
+    /// `Memory` or `Store` if a row can't be read.
     pub fn load_next(&mut self, ward: u32) -> Result<Option<NextStep>, Fault>
         ensures { Loads S.Store self.old self.new result (λ s found. option_map step_entry found ≡ next_at s ward) }
     {
@@ -190,9 +190,9 @@ impl<S: Alter> Store<S> {
         self.find_ballots(none, ward)
     }
 
-    /// Returns the same ballots with equal papers bundled: each list of preferences, with the number of valid papers
-    /// that have it. They are the papers of `load_papers`, up to their order. Changes nothing, and doesn't add to the
-    /// states that a stop may leave behind. Returns `Memory` or `Store` if a row can't be read.
+    /// Returns the ballots of a ward with equal papers bundled: each list of preferences, with the number of valid
+    /// papers that have it. They are the papers that `load_papers` returns, up to their order. Changes nothing, and
+    /// doesn't add to the states that a stop may leave behind. Returns `Memory` or `Store` if a row can't be read.
     pub fn load_bundles(&mut self, ward: u32) -> Result<Ballots<Bundles>, Fault>
         ensures loads { Loads S.Store self.old self.new result (λ s found. StandFor are_bundled found (ballots_in (columns_of (candidates_of s ward)) (piles_of s ward))) }
         ensures same { HasCleanDisk (state S.Store self.new) → (s : OfficeState) → IsAt s (state S.Store self.old)
@@ -203,8 +203,8 @@ impl<S: Alter> Store<S> {
         self.find_ballots(none, ward)
     }
 
-    /// Returns the columns of the papers of the batch with this number, if there is one. Changes nothing, and doesn't
-    /// add to the states that a stop may leave behind. Returns `Memory` or `Store` if a row can't be read.
+    /// Returns the columns of the papers of the batch with the given number, if there is one. Changes nothing, and
+    /// doesn't add to the states that a stop may leave behind. Returns `Memory` or `Store` if a row can't be read.
     pub fn load_columns(&mut self, batch: u32) -> Result<Option<Columns>, Fault>
         ensures { Loads S.Store self.old self.new result (λ s found. found ≡ columns_at s batch) }
     {

@@ -29,7 +29,7 @@ use std::marker::Model;
 use tables::Fault;
 use tables::presence::{has_every_table, has_some_table};
 
-/// A connection, between two transactions, to the tables of an office. Contracts see it as that connection.
+/// A connection, between transactions, to the tables of an office. Contracts see the store as that connection.
 pub struct Store<S: Alter> {
     pub(crate) conn: Connection<S>,
     pub(crate) alloc: Global,
@@ -71,7 +71,7 @@ fn commit_change<S: Alter>(
 }
 
 /// Creates the tables of an empty office in one transaction. If the database already has other tables, nothing in
-/// `sqlite`'s clauses guarantees which tables the statements created, so this checks that each of ours exists.
+/// `sqlite`'s clauses guarantees which tables the statements created, so this function checks that each of ours exists.
 fn commit_new_office<S: Alter>(conn: &mut Connection<S>) -> Result<(), Fault>
     requires { conn.old.in_transaction ≡ false }
     ensures done { HasCleanDisk (state S.Store conn.new) → IsBlank (state S.Store conn.old) → OnOk result (Rests (tables_of empty_office) (state S.Store conn.new)) }
@@ -101,9 +101,9 @@ fn tables_determine_states()
 impl<S: Alter> Store<S> {
     /// Creates the tables of an empty office in the connection's database.
     ///
-    /// Returns `WrongDatabase` if a table with the name of one of ours already exists; then nothing is changed. Returns
-    /// `Store` also if the connection is inside a transaction. After any other fault there are either all tables or
-    /// none.
+    /// Returns `WrongDatabase` if a table with the name of one of ours already exists; in that case nothing is changed.
+    /// Also returns `Store` if the connection is inside a transaction. After any other fault, either all the tables
+    /// exist or none do.
     pub fn create(alloc: Global, mut conn: Connection<S>) -> Result<Self, (Fault, Connection<S>)>
         ensures made { IfOk result (λ store. HasCleanDisk (state S.Store store) → IsBlank (state S.Store conn) → IsAt empty_office (state S.Store store)) }
         ensures stops { IfErr result (λ e. HasCleanDisk (state S.Store e.1) → IsBlank (state S.Store conn)
@@ -131,9 +131,9 @@ impl<S: Alter> Store<S> {
     /// Opens the office in the connection's database, and changes nothing.
     ///
     /// Returns `WrongDatabase` if there is no office table or no row in it; `OlderSchema` if an earlier program made
-    /// the office, and `NewerSchema` if a later one did. Returns `Damaged` if the rows are not the tables of any state, and
-    /// `Store` if the store failed, if rowids aren't distinct integers, or if the connection is inside a transaction.
-    /// The connection is returned with the fault, its database unchanged.
+    /// the office, and `NewerSchema` if a later one did. Returns `Damaged` if the rows don't form the tables of any
+    /// state, and `Store` if the store failed, if rowids aren't distinct integers, or if the connection is inside a
+    /// transaction. The connection is returned with the fault, its database unchanged.
     pub fn open_from(alloc: Global, mut conn: Connection<S>) -> Result<Self, (Fault, Connection<S>)>
         ensures opened { IfOk result (λ store. HasCleanDisk (state S.Store store) → (db : Database) → IsOurs db.schema → RestsAt db (state S.Store conn)
             → (s : OfficeState) × HoldsState db s × IsAt s (state S.Store store)) }
@@ -163,8 +163,8 @@ impl<S: Alter> Store<S> {
     }
 
     /// Writes a change in one transaction, entirely or not at all. After a fault, either the old tables or the new ones
-    /// may be found. Every fault occurs inside the transaction: the first call begins it, allocates nothing and can't
-    /// fail.
+    /// may be found. Every fault occurs inside the transaction, because the first call, which begins it, allocates
+    /// nothing and can't fail.
     pub fn commit(&mut self, change: &Change) -> Result<(), Fault>
         ensures done { HasCleanDisk (state S.Store self.new) → IsTrue (state S.Store self.old).is_open → (s : OfficeState) → IsAt s (state S.Store self.old)
             → IsTabulated s change.now → IsState (with_change (change_entry change.now) s) → OnOk result (IsAt (with_change (change_entry change.now) s) (state S.Store self.new)) }
@@ -194,7 +194,7 @@ impl<S: Alter> Store<S> {
         read_office(self.alloc, &mut self.conn)
     }
 
-    /// Returns the allocator for everything that is read.
+    /// Returns the allocator used for everything that is read.
     pub(crate) fn allocator(&self) -> Global {
         self.alloc
     }

@@ -32,7 +32,7 @@ use sqlite::Alter;
 use tables::Fault;
 
 impl<S: Alter> Store<S> {
-    /// Returns the part of the state that an actor's command needs, and the count to which a stage is to be added.
+    /// Returns the part of the state that an actor's command needs, and the count to which a stage will be added.
     fn find_part(&mut self, actor: u32, command: &Command) -> Result<CommandInput, Fault>
         ensures { Loads S.Store self.old self.new result (λ s part. (input_entries part ≡ part_of s actor command.now) × IsCountFor s command.now part.count) }
     {
@@ -69,7 +69,7 @@ impl<S: Alter> Store<S> {
         }
     }
 
-    /// Returns what the machine sees of the tables for one request. If the request already has a receipt, only the
+    /// Returns what the machine sees of the tables for one request. If the request already has a receipt, only that
     /// receipt is read.
     fn view_of<'a>(&mut self, actor: u32, id: &'a str, command: &Command) -> Result<View<'a>, Fault>
         ensures told { Loads S.Store self.old self.new result (λ s. IsViewOf s command.now) }

@@ -12,10 +12,10 @@ use tables::Fault;
 /// Returns all entries of the office in a connection's database, each table's in key order. No office is open
 /// afterwards, and nothing is changed, whatever the outcome.
 ///
-/// The rows are checked first, as by `Store::open_from`, whose fault is returned. `WrongDatabase`, `Damaged`,
-/// `OlderSchema` and `NewerSchema` depend on what is in the database. `Memory` may be returned at any point, and so may
-/// `Store`, if the store failed or rowids aren't distinct integers. Inside a transaction the fault is `Store`, and
-/// nothing is read.
+/// The rows are first checked as in `Store::open_from`, whose fault is returned. `WrongDatabase`, `Damaged`,
+/// `OlderSchema` and `NewerSchema` depend on the contents of the database. `Memory` may be returned at any point, and
+/// so may `Store`, if the store failed or rowids aren't distinct integers. Inside a transaction the fault is `Store`,
+/// and nothing is read.
 pub fn read_office<S: Alter>(alloc: Global, conn: &mut Connection<S>) -> Result<Rows, Fault>
     ensures { ReadsOffice (state S.Store conn.old) (state S.Store conn.new) result }
 {

@@ -1,8 +1,8 @@
-//! Initial states of the office in tests, and the requests that clients send to it.
+//! Initial states of the office in tests, and the requests that its clients send.
 
 use super::test_host::Act;
 
-/// Ward 7 with three candidates and two seats.
+/// Ward 7, with three candidates and two seats.
 pub const NOMINATED: &str = "$ init
 office ready
 $ ward 7 2 Harbour --id w1
@@ -17,7 +17,7 @@ candidate 2 of ward 7 added
 candidate 3 of ward 7 added
 ";
 
-/// Nominations are closed, and batch 12 of two papers is assigned to clerks 4 and 9.
+/// Nominations are closed, and batch 12, with two papers, is assigned to clerks 4 and 9.
 pub const GIVEN_OUT: &str = "$ close 7 --id n1
 ward 7 polled
 $ batch 12 7 2 4 9 --id b1
@@ -49,7 +49,7 @@ $ third 12 5 --id t1
 batch 12 third clerk 5
 ";
 
-/// Each of the third clerk's papers equals that of one of the others, and yet the batch differs: keyings are compared as a whole.
+/// Each of the third clerk's papers equals one of the other clerks', and yet the batch differs: keyings are compared as a whole.
 pub const PAPER_BY_PAPER: &str = "$ import-keying 5 12 1 FILE --id k1
 < paper,1,2,3
 < 1,1,2,
@@ -65,8 +65,8 @@ $ again 12 --id a1
 batch 12 round 2 open
 ";
 
-/// Clerks 5 and 9 agree in the next round. A later keying by clerk 4 is stored, and the batch stays taken with the papers on
-/// which 5 and 9 agree.
+/// Clerks 5 and 9 agree in the next round. A later keying by clerk 4 is stored, and the batch remains taken with the
+/// papers on which 5 and 9 agree.
 pub const FOUR_COMES_LATE: &str = "$ import-keying 5 12 2 FILE --id k2
 < paper,1,2,3
 < 1,1,2,
@@ -94,7 +94,7 @@ $ again 12 --id a2
 1| refused 19: keyings don't differ
 ";
 
-/// Ward 7, of one seat, in keying.
+/// Ward 7, with one seat, in keying.
 pub const POLLING: &str = "$ init
 office ready
 $ ward 7 1 Harbour --id w1
@@ -111,7 +111,7 @@ $ close 7 --id n1
 ward 7 polled
 ";
 
-/// Nominations in ward 7, and a batch of nine papers.
+/// Nominations for ward 7, and a batch of nine papers.
 pub const OPENED: Act = Act::Typed(
     "$ init
 office ready
@@ -154,10 +154,10 @@ ward 7 sealed: 9 valid, 0 rejected, quota 4.00000
 ",
 );
 
-/// Ward 7 with nine papers, up to and including its seal.
+/// Ward 7, with nine papers, up to and including its seal.
 pub const SEALED: &[Act] = &[OPENED, PAPERS, SEAL];
 
-/// The first two stages of its count.
+/// The first two stages of that ward's count.
 pub const TWO_STAGES: Act = Act::Typed(
     "$ advance 7 --id n1
 ward 7 stage 1 first preferences
@@ -166,7 +166,7 @@ ward 7 stage 2 surplus of 1
 ",
 );
 
-/// Nominations of five candidates for the three seats of ward 7.
+/// Nominations of five candidates for ward 7's three seats.
 pub const OPENED_FOR_FIVE: Act = Act::Typed(
     "$ init
 office ready
@@ -232,7 +232,7 @@ pub const WAITING_FOR_A_LOT: &[Act] = &[
     FIRST_OF_FOURTEEN,
 ];
 
-/// A count after its first surplus. Some of its papers are transferred with that surplus and again with the second.
+/// A count after its first surplus. Some of its papers are transferred in that surplus and again in the second.
 pub const AFTER_A_SURPLUS: &[Act] = &[
     OPENED_FOR_FIVE,
     Act::Typed(
@@ -270,14 +270,14 @@ ward 7 stage 2 surplus of 1
     ),
 ];
 
-/// Ward 7 in keying, with batch 12 of two papers assigned to clerks 4 and 9.
+/// Ward 7 in keying, with batch 12, of two papers, assigned to clerks 4 and 9.
 pub const BEGUN: &[Act] = &[Act::Typed(NOMINATED), Act::Typed(GIVEN_OUT)];
 
-/// Clerk 4's keying of the batch.
+/// Clerk 4's keying of that batch.
 pub const KEYING: &str =
     "POST /clerks/4/batches/12/keying HTTP/1.1\r\nContent-Length: 43\r\n\r\n{\"id\":\"h1\",\"round\":1,\"papers\":[\"1,2,\",\"D\"]}";
 
-/// The response to it.
+/// The response to that keying.
 pub const KEYED: &str =
     "HTTP/1.1 200 OK\r\nContent-Type: application/json\r\nContent-Length: 34\r\nConnection: close\r\n\r\n{\"reply\":\"batch 12 round 1 keyed\"}";
 

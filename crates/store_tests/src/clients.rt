@@ -1,5 +1,5 @@
-//! Test clients over HTTP, and orders over the order protocol, on a simulated network with their streams. Contracts know the
-//! bytes that they send.
+//! Test clients over HTTP, and orders over the order protocol, along with their streams on a simulated network.
+//! Contracts know the bytes that they send.
 
 ghost use Rattle.std.specs.Prelude.{◌≡◌, None, Some, length, nat_lt};
 ghost use Rattle.connections.specs.Tables.{with_removed};
@@ -15,9 +15,9 @@ use std::time::{Clock, Duration};
 use std::{fmt, io};
 use streams::Broken;
 
-/// A client, or an order: what it sends, and whether it closes its side afterwards. Then the most bytes that are available at a
-/// time, and the most that it accepts at a time. Last, the number of bytes after which reading fails, and the number after which
-/// writing fails.
+/// A client, or an order: what it sends, and whether it then closes its end of the connection. Next, the most bytes available at a time,
+/// and the most that it accepts at a time. Last, the number of bytes after which reading fails, and the number after
+/// which writing fails.
 #[derive(Clone, Copy, Debug)]
 pub struct TestClient<'a> {
     pub is_order: bool,
@@ -30,7 +30,8 @@ pub struct TestClient<'a> {
 }
 
 impl<'a> TestClient<'a> {
-    /// Returns a client that sends all of this at once and accepts its whole response at once. Its stream doesn't fail.
+    /// Returns a client that sends all of `sends` at once and accepts its whole response at once. Its stream doesn't
+    /// fail.
     pub fn whole(sends: &'a [u8]) -> TestClient<'a> {
         TestClient {
             is_order: false,
@@ -43,7 +44,7 @@ impl<'a> TestClient<'a> {
         }
     }
 
-    /// Returns an order with this message; it doesn't close its side.
+    /// Returns an order with the given message; the client doesn't close its end of the connection.
     pub fn order(message: &'a [u8]) -> TestClient<'a> {
         TestClient {
             is_order: true,
@@ -52,7 +53,7 @@ impl<'a> TestClient<'a> {
         }
     }
 
-    /// Returns a client that sends and accepts at most this many bytes at a time.
+    /// Returns a client that sends and accepts at most `bytes_per_read` bytes at a time.
     pub fn slow(sends: &'a [u8], bytes_per_read: usize) -> TestClient<'a> {
         TestClient {
             bytes_per_read,
@@ -61,7 +62,7 @@ impl<'a> TestClient<'a> {
         }
     }
 
-    /// Returns a client that sends nothing and doesn't close its side.
+    /// Returns a client that sends nothing and doesn't close its end of the connection.
     pub fn silent() -> TestClient<'a> {
         TestClient {
             closes_after_sending: false,
@@ -70,13 +71,13 @@ impl<'a> TestClient<'a> {
     }
 }
 
-/// Clients in the order in which they connect; `None` is a connection that fails as it is accepted.
+/// Clients in the order in which they connect; `None` is a connection that fails while being accepted.
 pub type TestClients<'a> = &'a [Option<TestClient<'a>>];
 
-/// A server in a test: its clients, and which of them the network reports as ready after each wait: all that were accepted, or
-/// only those with these numbers, in order. Then the number of clients after which serving ends, how many seconds pass between
-/// two readings of the clock, and the number of waits after which the network fails. Last, the text of a file of clerks' codes,
-/// if there is a gate.
+/// A server in a test: its clients, and which of them the network reports as ready after each wait, either all that
+/// were accepted or only those with the listed numbers, in order. Next, the number of clients after which serving ends,
+/// how many seconds pass between two readings of the clock, and the number of waits after which the network fails.
+/// Last, the text of a file of clerks' codes, if there is a gate.
 #[derive(Clone, Copy, Debug)]
 pub struct Evening<'a> {
     pub clients: TestClients<'a>,
@@ -88,7 +89,7 @@ pub struct Evening<'a> {
 }
 
 impl<'a> Evening<'a> {
-    /// Returns an evening with these clients, on which all of them are served and no time passes.
+    /// Returns an evening with the given clients, during which all of them are served and no time passes.
     pub fn of(clients: TestClients<'a>) -> Evening<'a> {
         Evening {
             clients,
@@ -101,7 +102,7 @@ impl<'a> Evening<'a> {
     }
 }
 
-/// A client's stream, and the page to which the bytes that the client accepts are written.
+/// A client's stream, and the page to which the bytes it accepts are written.
 #[derive(Drop)]
 pub struct TestStream<'s, 'p> {
     left: &'s [u8],
@@ -204,7 +205,7 @@ impl<'c, 'p> TestNetwork<'c, 'p> {
         }
     }
 
-    /// Accepts the next client under this number.
+    /// Accepts the next client under the given number.
     fn lets_in(&mut self, number: u64) {
         self.next = self.next.saturating_add(1);
         self.came = number.saturating_add(1);
@@ -280,7 +281,7 @@ impl<'c, 'p> Network for TestNetwork<'c, 'p> {
     }
 }
 
-/// Returns this many empty pages, one per client.
+/// Returns `count` empty pages, one per client.
 pub fn pages_of(alloc: Global, count: usize) -> Result<Vec<RefCell<Vec<u8>>>, Fail> {
     let mut pages = Vec::new(alloc);
     for _ in 0..count {
@@ -302,7 +303,7 @@ pub fn joined(alloc: Global, pages: Vec<RefCell<Vec<u8>>>) -> Result<String, Fai
     Ok(String::from_utf8(all)?)
 }
 
-/// The network on a port of this host, and the number of clients after which serving ends.
+/// The network on a port of the test's host, and the number of clients after which serving ends.
 #[derive(Drop)]
 pub struct Port {
     pub network: RefCell<SocketNetwork<Jumping>>,
@@ -315,7 +316,7 @@ impl fmt::Debug for Port {
     }
 }
 
-/// A clock that advances by this many seconds at each reading.
+/// A clock that advances by a fixed number of seconds at each reading.
 #[derive(Drop)]
 pub struct Jumping {
     now: Cell<u64>,
@@ -331,7 +332,7 @@ impl Jumping {
     }
 }
 
-/// Returns the time of a clock, in milliseconds.
+/// Returns a clock's current time, in milliseconds.
 fn now_by<C: Clock>(clock: &C) -> Result<u64, Broken> {
     match clock.monotonic() {
         Ok(since) => Ok(u64::try_from(since.as_millis()).unwrap_or(u64::MAX)),
@@ -351,7 +352,7 @@ impl Clock for Jumping {
     }
 }
 
-/// A writer that keeps the bytes that it accepted before it failed.
+/// A writer that keeps the bytes it accepted before it failed.
 #[derive(Drop)]
 pub struct LimitedWriter {
     taken: Vec<u8>,
@@ -359,7 +360,7 @@ pub struct LimitedWriter {
 }
 
 impl LimitedWriter {
-    /// Returns a writer that accepts this many bytes, and then fails.
+    /// Returns a writer that accepts `room` bytes, and then fails.
     pub fn new(alloc: Global, room: usize) -> LimitedWriter {
         LimitedWriter {
             taken: Vec::new(alloc),

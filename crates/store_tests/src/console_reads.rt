@@ -1,5 +1,5 @@
-//! What the officer's console reads: from an office with a batch that differs, and from the same office after the batch is taken
-//! and its doubtful paper is judged.
+//! What the officer's console reads from an office with a batch that differs, and from the same office once the batch
+//! has been taken and its doubtful paper judged.
 
 use super::begun::{DIFFERING, FOUR_COMES_LATE, GIVEN_OUT, NOMINATED, PAPER_BY_PAPER, SET};
 use super::clients::{Evening, TestClient};
@@ -18,7 +18,7 @@ const OFFICE: &str = "Basic b2ZmaWNlOmFiY2QtZWZnaC1qa21uLXByc3Q=";
 
 const FOUR: &str = "Basic NDprZjdtLTJ3eHQ=";
 
-/// A target, the code that is sent, and the status line and the body of the response.
+/// A target, the code sent with it, and the status line and body of the response.
 type Read = (&'static str, &'static str, &'static str, &'static str);
 
 const READ: &str = "200 OK";
@@ -103,7 +103,7 @@ const WHILE_IT_DIFFERS: [Read; 12] = [
     ),
 ];
 
-/// The responses once batch 12 is taken and its doubtful paper is accepted.
+/// The responses once batch 12 has been taken and its doubtful paper accepted.
 const ONCE_IT_IS_TAKEN: [Read; 7] = [
     (
         "/office/wards",
@@ -149,7 +149,7 @@ const ONCE_IT_IS_TAKEN: [Read; 7] = [
     ),
 ];
 
-/// Returns a request with this code, or without one if it is empty.
+/// Returns a request with the given code, or without one if the code is empty.
 fn request_of(alloc: Global, target: &str, code: &str) -> Result<String, AllocError> {
     if code.is_empty() {
         return format!(in alloc; "GET {target} HTTP/1.1\r\n\r\n");
@@ -157,7 +157,7 @@ fn request_of(alloc: Global, target: &str, code: &str) -> Result<String, AllocEr
     format!(in alloc; "GET {target} HTTP/1.1\r\nAuthorization: {code}\r\n\r\n")
 }
 
-/// Returns a response with this status and body.
+/// Returns a response with the given status and body.
 fn response_of(alloc: Global, status: &str, body: &str) -> Result<String, AllocError> {
     let asks = if status == "401 Unauthorized" {
         "WWW-Authenticate: Basic realm=\"office\", charset=\"UTF-8\"\r\n"
@@ -170,7 +170,7 @@ fn response_of(alloc: Global, status: &str, body: &str) -> Result<String, AllocE
     )
 }
 
-/// Returns the step in which these clients connect and get this response.
+/// Returns the step in which the given clients connect and get the given response.
 fn case_of<'a>(
     clients: &'a [Option<TestClient<'a>>],
     codes: &'a str,
@@ -183,7 +183,7 @@ fn case_of<'a>(
     (Step::Serve(evening), (0, response, "Ok(())"))
 }
 
-/// Reads one target while these codes are in force; the response must be this, and no row may change.
+/// Reads one target while the given codes are in force; the response must be the given one, and no row may change.
 fn read_one<M: TestHost + Drop>(
     rt: &(impl Abort + AllocGlobal),
     host: M,
@@ -197,7 +197,7 @@ fn read_one<M: TestHost + Drop>(
     hear_one_unchanged(rt, host, case_of(&clients, codes, response.as_str()))
 }
 
-/// Reads each of these targets.
+/// Reads each of the given targets.
 fn read_all<M: TestHost + Drop>(
     rt: &(impl Abort + AllocGlobal),
     host: M,
@@ -210,7 +210,8 @@ fn read_all<M: TestHost + Drop>(
     Ok(host)
 }
 
-/// A clerk's code isn't accepted as the office's; and if the file of codes has no line for the office, the target isn't found.
+/// A clerk's code isn't accepted in place of the office's; and if the file of codes has no line for the office, the target
+/// isn't found.
 fn are_kept_out<M: TestHost + Drop>(rt: &(impl Abort + AllocGlobal), host: M) -> Result<M, Fail> {
     let by_a_clerk = (
         "/office/wards",

@@ -1,4 +1,4 @@
-//! Copies of the office to other files: if those files stop at any call, either nothing or the whole office is found in them.
+//! Copies of the office to other files: if those files stop at any call, they contain either nothing or the whole office.
 
 use super::begun::{DIFFERING, GIVEN_OUT, NOMINATED};
 use super::disks::Disks;
@@ -26,8 +26,8 @@ const NOTHING: Case<'static> = (
     (3, "", "fault 105: wrong database\n"),
 );
 
-/// Copies an office to files that may stop, and checks what they contain afterwards: the whole office, or nothing, which is
-/// allowed only if the copy wasn't acknowledged. Returns whether it was.
+/// Copies an office to files that may stop, and checks what they contain afterwards: the whole office, or nothing,
+/// which is allowed only if the copy wasn't acknowledged. Returns whether the copy was acknowledged.
 fn copy_once<M: TestHost + Drop>(
     rt: &(impl Abort + AllocGlobal),
     office: M,
@@ -55,7 +55,8 @@ fn copy_once<M: TestHost + Drop>(
     Ok((is_told, office))
 }
 
-/// Stops a copy at each call on one of its files in turn, until it finishes without a stop. The office must be unchanged.
+/// Stops a copy at each call on one of its files in turn, until it finishes without a stop. The office must stay
+/// unchanged.
 fn copy_each<M: TestHost + Drop>(rt: &(impl Abort + AllocGlobal), file: File) -> Result<(), Fail> {
     let (whole, mut office): (String, M) = rows(rt.alloc(), run_parts(rt, &OFFICE)?)?;
     let blank: M = lasting(rt.alloc());

@@ -1,5 +1,5 @@
-//! Disks in memory that can be stopped, and what a script prints on them. No other file of the tests
-//! names the store, and contracts say nothing about it: that keeps their proofs small.
+//! In-memory disks that can be stopped, and what a script prints when run on them. No other file of the tests names the
+//! store, and contracts say nothing about it, which keeps their proofs small.
 
 ghost use Rattle.std.specs.Prelude.{⊤};
 
@@ -23,7 +23,7 @@ impl Model for Disks {
     ghost view = { λ _. tt };
 }
 
-/// Opens the files. On failure returns them, with the error of `sqlite` if it was called.
+/// Opens the files. On failure returns them, along with `sqlite`'s error if it was called.
 fn opened(
     alloc: Global,
     files: Files<Fuse<Memory>>,
@@ -37,7 +37,7 @@ fn opened(
     }
 }
 
-/// Copies the office of a connection to these files, and returns the files as they are afterwards.
+/// Copies a connection's office to the given files, and returns the files as they are afterwards.
 fn copy_over<S: Alter + Drop>(
     alloc: Global,
     office: &mut Connection<S>,
@@ -57,7 +57,7 @@ fn copy_over<S: Alter + Drop>(
     }
 }
 
-/// Returns a disk with the same bytes, all of them synced, that fails after this many calls.
+/// Returns a disk with the same bytes, all of them synced, that fails after `calls` calls.
 fn copy_of(alloc: Global, disk: &Fuse<Memory>, calls: u64) -> Result<Fuse<Memory>, Fail> {
     let mut copy = Memory::new(alloc);
     copy.write_at(0, disk.inner().bytes())?;

@@ -1,5 +1,5 @@
-//! Clients that connect at the same time: requests arrive in parts, connections break, clients stay silent, or too many connect.
-//! Also requests for the work of clerks whose numbers no client can send.
+//! Clients that connect at the same time: requests arrive in parts, connections break, clients stay silent, or too many
+//! connect. There are also requests for the work of clerks whose numbers no client can send.
 
 use super::begun::{BAD_REQUEST, BEGUN, KEYED, KEYING};
 use super::clients::{Evening, TestClient, TestClients};
@@ -15,7 +15,7 @@ use std::test::Fail;
 /// Clerk 4's work after keying.
 const FOUR_KEYED: &str = "batch 12 ward 7 [1, 2, 3] size 2 round 1: keyed\n";
 
-/// The output for a number that is not a clerk's.
+/// The output for a number that isn't a clerk's.
 const NO_CLERK: &str = "refused 3: number out of range\n";
 
 /// Requests for the work of clerk 4 and of clerk 9, and for a sheet that doesn't exist yet.
@@ -38,7 +38,7 @@ const NINE_TO_KEY: &str =
 const WRONG_PHASE: &str =
     "HTTP/1.1 409 Conflict\r\nContent-Type: application/json\r\nContent-Length: 34\r\nConnection: close\r\n\r\n{\"refusal\":9,\"text\":\"wrong phase\"}";
 
-/// The clients, the response that each must get, and how serving must end.
+/// The clients, the response each must get, and how serving must end.
 #[derive(Clone, Copy)]
 struct Case<'a> {
     evening: Evening<'a>,
@@ -58,7 +58,7 @@ fn taken(alloc: Global, texts: &[&str]) -> Result<String, Fail> {
     Ok(all)
 }
 
-/// Serves clients, and compares the responses that they get.
+/// Serves clients, and checks the responses that they get.
 fn serve<M: TestHost + Drop>(
     rt: &(impl Abort + AllocGlobal),
     host: M,
@@ -69,7 +69,7 @@ fn serve<M: TestHost + Drop>(
     expect(rt, host, &[(Step::Serve(case.evening), told)])
 }
 
-/// Serves an evening; all of its clients connect and are closed.
+/// Serves an evening; all its clients connect and are disconnected.
 fn serve_all<M: TestHost + Drop>(
     rt: &(impl Abort + AllocGlobal),
     host: M,
@@ -88,8 +88,8 @@ fn serve_all<M: TestHost + Drop>(
     )
 }
 
-/// Clients that connect at the same time send their requests in parts. Each request is processed once it is complete: one request
-/// for clerk 4's work before that clerk's keying is complete, and one after it.
+/// Clients that connect at the same time send their requests in parts. Each request is processed once it is complete:
+/// one request for clerk 4's work before that clerk's keying is complete, and another afterwards.
 fn have_their_turns<M: TestHost + Drop>(
     rt: &(impl Abort + AllocGlobal),
     host: M,
@@ -119,8 +119,8 @@ fn have_their_turns<M: TestHost + Drop>(
     serve_all(rt, host, Evening::of(&clients), &texts)
 }
 
-/// Connections break at each byte of the request, and nothing of it is stored. They then break at each byte of the response: to
-/// the keying by the first of those clients, and to its repetition by the others.
+/// Connections break at each byte of the request, and none of it is stored. They then break at each byte of the
+/// response: to the keying for the first of those clients, and to its repetition for the others.
 fn break_at_each_byte<M: TestHost + Drop>(
     rt: &(impl Abort + AllocGlobal),
     host: M,
@@ -145,8 +145,8 @@ fn break_at_each_byte<M: TestHost + Drop>(
     serve_all(rt, host, Evening::of(&untold), &fronts)
 }
 
-/// A silent client, one that sends a byte now and then, and one that accepts nothing of its response are closed when the clock
-/// jumps by ten seconds. The others get their responses meanwhile.
+/// A silent client, one that sends a byte now and then, and one that accepts none of its response are closed when the
+/// clock jumps by ten seconds. The others get their responses meanwhile.
 fn are_let_go<M: TestHost + Drop>(rt: &(impl Abort + AllocGlobal), host: M) -> Result<M, Fail> {
     let clients = [
         Some(TestClient::silent()),
@@ -164,7 +164,7 @@ fn are_let_go<M: TestHost + Drop>(rt: &(impl Abort + AllocGlobal), host: M) -> R
     serve_all(rt, host, evening, &["", "", "", NINE_TO_KEY])
 }
 
-/// Returns a case: the clients, the number of them after which serving ends, and how it must end.
+/// Returns a case: the clients, the number of clients after which serving ends, and how it must end.
 fn wanted<'a>(
     clients: TestClients<'a>,
     connections: Option<u64>,
@@ -183,7 +183,7 @@ fn wanted<'a>(
     }
 }
 
-/// Connections that fail as they are accepted don't count. If the network fails, serving ends, and responses that were already
+/// Connections that fail while being accepted don't count. If the network fails, serving ends, and responses already
 /// sent remain valid.
 fn are_not_let_in<M: TestHost + Drop>(rt: &(impl Abort + AllocGlobal), host: M) -> Result<M, Fail> {
     let work = Some(TestClient::whole(FOUR));
@@ -202,16 +202,16 @@ fn are_not_let_in<M: TestHost + Drop>(rt: &(impl Abort + AllocGlobal), host: M) 
     Ok(host)
 }
 
-/// The number of clients that connect at the same time, and the most that may be connected.
+/// The number of clients that connect at the same time, and the most that may be connected at once.
 const CROWD: usize = 600;
 
 const MOST: usize = 512;
 
-/// The clients in the crowd that ask for a clerk's work. They send three bytes at a time, and the network reports only them as
-/// ready.
+/// The clients in the crowd that request a clerk's work. They send three bytes at a time, and the network reports only
+/// them as ready.
 const ASKING: &[usize] = &[0, CROWD - MOST - 1, CROWD - MOST, MOST, CROWD - 1];
 
-/// Returns a crowd of clients; all but those in `ASKING` are silent.
+/// Returns a crowd of clients, all silent except those in `ASKING`.
 fn crowd<'a>(alloc: Global) -> Result<Vec<Option<TestClient<'a>>>, Fail> {
     let mut clients = Vec::new(alloc);
     for place in 0..CROWD {
@@ -227,7 +227,7 @@ fn crowd<'a>(alloc: Global) -> Result<Vec<Option<TestClient<'a>>>, Fail> {
     Ok(clients)
 }
 
-/// Returns the responses to a crowd in which only the clients at these places get one.
+/// Returns the responses to a crowd in which only the clients at the given indices get one.
 fn crowds_texts(alloc: Global, answered: &[usize]) -> Result<Vec<&'static str>, Fail> {
     let mut texts = Vec::new(alloc);
     for place in 0..CROWD {
@@ -241,9 +241,9 @@ fn crowds_texts(alloc: Global, answered: &[usize]) -> Result<Vec<&'static str>, 
     Ok(texts)
 }
 
-/// If more clients connect than may be connected, those that have waited longest are closed: the first 88 of a crowd of 600. No
-/// client is closed for that reason before it has waited a second: if no time passes, a new connection waits until another is
-/// closed.
+/// If more clients connect than are allowed at once, those that have waited longest are closed: the first 88 of a crowd
+/// of 600. No client is closed for that reason before it has waited a second: if no time passes, a new connection waits
+/// until another is closed.
 fn are_too_many<M: TestHost + Drop>(rt: &(impl Abort + AllocGlobal), host: M) -> Result<M, Fail> {
     let alloc = rt.alloc();
     let clients = crowd(alloc)?;
@@ -272,7 +272,7 @@ fn are_too_many<M: TestHost + Drop>(rt: &(impl Abort + AllocGlobal), host: M) ->
     )
 }
 
-/// A file of codes; and requests for clerk 4's work with that clerk's code, with a wrong one, and with none.
+/// A file of codes; and requests for clerk 4's work with that clerk's code, with a wrong code, and with no code.
 const CODES: &str = "4 kf7m-2wxt\n9 w3hd-4psn\n";
 
 const BY_HIS_CODE: &[u8] =
@@ -281,12 +281,12 @@ const BY_HIS_CODE: &[u8] =
 const BY_A_WRONG_ONE: &[u8] =
     b"GET /clerks/4/work HTTP/1.1\r\nAuthorization: Basic OTp3M2hkLTRwc24=\r\n\r\n";
 
-/// The response to the last two.
+/// The response to the last two requests.
 const UNAUTHORIZED: &str =
     "HTTP/1.1 401 Unauthorized\r\nContent-Type: application/json\r\nContent-Length: 24\r\nWWW-Authenticate: Basic realm=\"clerk 4\", charset=\"UTF-8\"\r\nConnection: close\r\n\r\n{\"error\":\"unauthorized\"}";
 
-/// Requests and their responses. Clerk 4's work is returned only for that clerk's code, even if the response was cached, and even
-/// after wrong codes were sent. A sheet is public.
+/// Requests and their responses. Clerk 4's work is returned only for that clerk's code, even if the response was
+/// cached, and even after wrong codes have been sent. A sheet is public.
 const AT_THE_GATE: [(&[u8], &str); 18] = [
     (BY_HIS_CODE, FOUR_TO_KEY),
     (BY_HIS_CODE, FOUR_TO_KEY),
@@ -317,7 +317,7 @@ fn clients_with_codes<'a>(alloc: Global) -> Result<Vec<Option<TestClient<'a>>>, 
     Ok(clients)
 }
 
-/// Returns the responses to them.
+/// Returns the responses to those clients.
 fn responses_at_gate(alloc: Global) -> Result<Vec<&'static str>, AllocError> {
     let mut texts = Vec::new(alloc);
     for (_, told) in &AT_THE_GATE {
@@ -340,8 +340,8 @@ fn come_with_codes<M: TestHost + Drop>(
     serve_all(rt, host, evening, &texts)
 }
 
-/// If bodies are a megabyte each, 63 of them may be in memory at once. When one more arrives, the client that has waited longest
-/// is closed, and no other.
+/// If bodies are a megabyte each, 63 of them may be in memory at once. When another arrives, the client that has waited
+/// longest is closed, and no other.
 fn hold_too_much<M: TestHost + Drop>(rt: &(impl Abort + AllocGlobal), host: M) -> Result<M, Fail> {
     let alloc = rt.alloc();
     let head = b"POST /clerks/4/batches/12/keying HTTP/1.1\r\nContent-Length: 1048576\r\n\r\n";
@@ -365,7 +365,7 @@ fn hold_too_much<M: TestHost + Drop>(rt: &(impl Abort + AllocGlobal), host: M) -
     serve(rt, host, wanted(&clients, None, &texts, "Err(Network)"))
 }
 
-/// Asks for work under numbers that no client can send.
+/// Requests work under numbers that no client can send.
 fn works<M: TestHost + Drop>(rt: &(impl Abort + AllocGlobal), host: M) -> Result<M, Fail> {
     expect(
         rt,

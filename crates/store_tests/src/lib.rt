@@ -1,20 +1,21 @@
-//! Tests of stores that only code in the same process can create: stores, outputs and clients that fail, and calls that no order
-//! makes. (Refusals, replies, words, overviews, and rows that no office has are played by examples/transcripts.sh.)
+//! Tests of stores that only code in the same process can create: stores, outputs and clients that fail, and calls that
+//! no order makes. (Refusals, replies, words, overviews, and rows that no office has are covered by
+//! examples/transcripts.sh.)
 //!
-//! A crate's tests are proved together with the whole crate. Here they load only the statements of `desk`, so the program isn't
-//! proved a second time.
+//! A crate's tests are proved together with the whole crate. These tests load only the statements of `desk`, so the
+//! program isn't proved a second time.
 #![tactic(auto)]
 
 // The steps of a test on any store, and their output.
 #[cfg(test)]
 mod steps;
-// What is typed and printed, as text.
+// Typed and printed lines, as text.
 #[cfg(test)]
 mod transcripts;
-// An office on a host of any kind.
+// An office on any kind of host.
 #[cfg(test)]
 mod test_host;
-// The only store of these tests.
+// The only store in these tests.
 #[cfg(test)]
 mod disks;
 // Clients over HTTP.

@@ -8,7 +8,7 @@ use std::alloc::{AllocError, Global};
 use std::process::Abort;
 use std::test::Fail;
 
-/// Returns a request by an actor, with this id.
+/// Returns a request by the given actor, with the given id.
 fn asked(alloc: Global, actor: u32, id: &str, command: WardCommand) -> Result<Request, AllocError> {
     Ok(Request {
         actor,
@@ -17,7 +17,7 @@ fn asked(alloc: Global, actor: u32, id: &str, command: WardCommand) -> Result<Re
     })
 }
 
-/// Returns the command that adds ward 7, of two seats.
+/// Returns the command that adds ward 7, with two seats.
 fn harbour(alloc: Global) -> Result<WardCommand, AllocError> {
     Ok(WardCommand::Add {
         ward: 7,
@@ -26,8 +26,8 @@ fn harbour(alloc: Global) -> Result<WardCommand, AllocError> {
     })
 }
 
-/// The answers: to the office, for this command, for its repetition, and for the same command under another id; to a clerk,
-/// because only the office may send it; and to the office, for closing a ward without candidates.
+/// The answers: to the office, for this command, for its repetition, and for the same command under a different id; to
+/// a clerk, because only the office may send it; and to the office, for closing a ward without candidates.
 const ANSWERS: &str = "done: ward 7 added
 kept: ward 7 added
 refused 6: ward exists

@@ -1,4 +1,4 @@
-//! A ward's papers and count as the store reads them, call by call.
+//! A ward's papers and count, as the store reads them, call by call.
 
 use super::begun::{
     DIFFERING, FOUR_COMES_LATE, GIVEN_OUT, NOMINATED, PAPER_BY_PAPER, SEALED, SET, TWO_STAGES,
@@ -13,7 +13,7 @@ use std::process::Abort;
 use std::test::Fail;
 use store::{Fault, Store};
 
-/// Returns the value that a call read.
+/// Returns the value that a call has read.
 fn read<T>(loaded: Result<T, Fault>) -> Result<T, Fail> {
     match loaded {
         Ok(found) => Ok(found),
@@ -71,7 +71,7 @@ pub fn loads<S: Alter + Drop>(
     Ok((StepPrinted::printed_only(alloc, text?), conn))
 }
 
-/// The worked ward before its first stage, and after its second.
+/// The worked ward before its first stage and after its second.
 const SEALED_LOADS: &str = "9 papers
 [1, 2] 4
 [1, 3] 2
@@ -96,7 +96,7 @@ rejected [0, 0, 0, 0, 0]
 lots []
 ";
 
-/// Two batches, each of as many papers as a batch may have, all equal.
+/// Two batches, each with as many papers as a batch may have, all equal.
 const TWO_BATCHES: &str = "$ close 7 --id n1
 ward 7 polled
 $ batch 12 7 500 4 9 --id b1
@@ -130,7 +130,8 @@ const LATE: &[Act] = &[
     Act::Typed(FOUR_COMES_LATE),
 ];
 
-/// Reads ward 7 before it is sealed and after, when papers are read in another order; the results must be equal.
+/// Reads ward 7 before it is sealed and afterwards, when papers are read in a different order; the results must be
+/// equal.
 fn read_twice<M: TestHost + Drop>(
     rt: &(impl Abort + AllocGlobal),
     host: M,
@@ -160,7 +161,7 @@ fn thousand_papers<M: TestHost + Drop>(rt: &(impl Abort + AllocGlobal)) -> Resul
     Ok(host)
 }
 
-/// Checks what is read for the worked ward before its first stage, and after its second.
+/// Checks what is read for the worked ward before its first stage and after its second.
 fn read_in_count<M: TestHost + Drop>(rt: &(impl Abort + AllocGlobal)) -> Result<(), Fail> {
     let host: M = run_parts(rt, SEALED)?;
     let host = expect(rt, host, &[(Step::Loads(7), (0, SEALED_LOADS, ""))])?;

@@ -16,7 +16,7 @@ use wire::{HttpRequest, RequestError, read_request};
 
 const CLIENTS: usize = 10_000;
 
-/// The requests from which others are made.
+/// The requests from which the others are made.
 const REQUESTS: [&str; 5] = [
     KEYING,
     "GET /clerks/4/work HTTP/1.1\r\nHost: localhost\r\n\r\n",
@@ -25,7 +25,7 @@ const REQUESTS: [&str; 5] = [
     "PUT /clerks/9/batches/12/keying HTTP/1.1\r\nContent-Length: 2\r\n\r\n{}",
 ];
 
-/// Clerk 9's keying of the batch, with the same papers as clerk 4's.
+/// Clerk 9's keying of the batch, with the same papers as clerk 4's keying.
 const NINE: &str =
     "POST /clerks/9/batches/12/keying HTTP/1.1\r\nContent-Length: 43\r\n\r\n{\"id\":\"h1\",\"round\":1,\"papers\":[\"1,2,\",\"D\"]}";
 
@@ -56,7 +56,7 @@ fn byte(numbers: &mut Pcg32) -> u8 {
     byte
 }
 
-/// Returns one of the requests, at random.
+/// Returns one of the requests, chosen at random.
 fn request(numbers: &mut Pcg32) -> &'static [u8] {
     match REQUESTS.get(below(numbers, REQUESTS.len())) {
         Some(request) => request.as_bytes(),
@@ -73,7 +73,7 @@ fn noise(alloc: Global, numbers: &mut Pcg32) -> Result<Vec<u8>, AllocError> {
     Ok(bytes)
 }
 
-/// Returns a request of which one to four bytes are changed.
+/// Returns a request with one to four bytes changed.
 fn changed(alloc: Global, numbers: &mut Pcg32) -> Result<Vec<u8>, AllocError> {
     let mut bytes = Vec::from_slice(alloc, request(numbers))?;
     for _ in 0..=below(numbers, 4) {
@@ -103,7 +103,7 @@ fn sent(alloc: Global, numbers: &mut Pcg32) -> Result<Vec<u8>, AllocError> {
     }
 }
 
-/// Returns whether a client that sends these bytes may get this status.
+/// Returns whether a client that sends the given bytes may get the given status.
 fn may_be_told(alloc: Global, bytes: &[u8], status: &str) -> bool {
     match read_request(alloc, SERVER_SETTINGS.http, &mut Counted::new(bytes)) {
         Ok(HttpRequest::Denied(RequestError::BadRequest)) => status == "400",

@@ -1,5 +1,5 @@
-//! The migration of an office that an earlier program made, on files that stop. (Which offices are migrated, and which aren't, is
-//! played in examples/transcripts/older.txt.)
+//! The migration of an office made by an earlier program, on files that stop. (Which offices are migrated, and which
+//! aren't, is covered by examples/transcripts/older.txt.)
 
 mod rows;
 

@@ -1,5 +1,5 @@
-//! Orders that are sent to an office while it serves clients. They arrive at once or byte by byte, their connections break, they
-//! are meant for another file or sent by another program, or they aren't orders.
+//! Orders sent to an office while it serves clients. They arrive at once or byte by byte, their connections break, they
+//! are meant for a different file or sent by a different program, or they aren't orders at all.
 
 use super::begun::{BEGUN, KEYED, KEYING};
 use super::clients::{Evening, TestClient};
@@ -14,14 +14,14 @@ use std::test::Fail;
 /// A keying's papers, as a file.
 const PAPERS: &[u8] = b"paper,1,2,3\n1,1,2,\n2,,,1\n";
 
-/// The words of orders that are sent.
+/// The words of the orders that are sent.
 const STATUS: &[&str] = &["DB", "status", "7"];
 
 const IMPORT: &[&str] = &["DB", "import-keying", "9", "12", "1", "FILE", "--id", "k1"];
 
 const SCRIPT: &[&str] = &["DB", "replay", "SCRIPT"];
 
-/// A script whose first line names a file, and whose last line is refused.
+/// A script whose first line names a file and whose last line is refused.
 const LINES: &[u8] =
     b"import-keying 9 12 1 FILE --id k1\ncandidate 7 4 Dee --id d1\nseal 7 --id s1\n";
 
@@ -37,15 +37,15 @@ const JUDGE: &[&str] = &["DB", "judge", "12", "1", "maybe", "--id", "j1"];
 
 const ELSEWHERE: &[&str] = &["DB", "status", "8"];
 
-/// The files that are sent with them.
+/// The files sent with those orders.
 const KEYED_FILE: &[(&str, &[u8])] = &[("FILE", PAPERS)];
 
 const SCRIPTED: &[(&str, &[u8])] = &[("SCRIPT", LINES), ("FILE", PAPERS)];
 
-/// Their output.
+/// The output of those orders.
 const IMPORTED: &[&str] = &["batch 12 round 1 keyed", "\n"];
 
-/// An order, the file that it is meant for, and the program that sends it.
+/// An order, the file it is meant for, and the program that sends it.
 #[derive(Clone, Copy)]
 struct HandedOrder<'a> {
     version: &'a str,
@@ -103,7 +103,7 @@ fn put_string(out: &mut Vec<u8>, bytes: &[u8]) -> Result<(), Fail> {
     Ok(out.extend_from_slice(bytes)?)
 }
 
-/// Appends a frame of this kind, built here byte by byte.
+/// Appends a frame of the given kind, built here byte by byte.
 fn put_frame(out: &mut Vec<u8>, kind: u8, bytes: &[u8]) -> Result<(), Fail> {
     out.push(kind)?;
     put_string(out, bytes)
@@ -131,7 +131,7 @@ fn told_of<'a>(orders: &'a [Option<TestClient<'a>>], told: &'a str) -> Case<'a> 
     (Step::Serve(evening), (0, told, "Ok(())"))
 }
 
-/// Orders that arrive at the same time have this output.
+/// Checks that orders arriving at the same time have the given output.
 fn are_told<'a, M: TestHost + Drop>(
     rt: &(impl Abort + AllocGlobal),
     host: M,
@@ -141,7 +141,7 @@ fn are_told<'a, M: TestHost + Drop>(
     expect(rt, host, &[told_of(orders, told)])
 }
 
-/// Does the same, and checks that no row changes.
+/// Does the same as `are_told`, and checks that no row changes.
 fn are_told_unchanged<'a, M: TestHost + Drop>(
     rt: &(impl Abort + AllocGlobal),
     host: M,
@@ -151,8 +151,8 @@ fn are_told_unchanged<'a, M: TestHost + Drop>(
     expect_unchanged(rt, host, &[told_of(orders, told)])
 }
 
-/// Orders that are refused, each with its status and the reason: sent by another program, meant for another file, not possible
-/// while the office is being served, or invalid. They change nothing.
+/// Orders that are refused, each with its status and the reason: sent by a different program, meant for a different
+/// file, impossible while the office is being served, or invalid. They change nothing.
 fn are_refused<M: TestHost + Drop>(rt: &(impl Abort + AllocGlobal), host: M) -> Result<M, Fail> {
     let alloc = rt.alloc();
     let older = HandedOrder {
@@ -205,8 +205,8 @@ fn are_refused<M: TestHost + Drop>(rt: &(impl Abort + AllocGlobal), host: M) -> 
     are_told_unchanged(rt, host, &orders, told.as_str())
 }
 
-/// Messages that aren't orders. If one is too long or ends too early, its connection is closed; one that can't be decoded gets
-/// the fault for a file that another program has locked.
+/// Messages that aren't orders. If one is too long or ends too early, its connection is closed; one that can't be
+/// decoded gets the fault for a file locked by another program.
 fn are_none<M: TestHost + Drop>(rt: &(impl Abort + AllocGlobal), host: M) -> Result<M, Fail> {
     let mut told = frames(rt.alloc(), &[], 3, "fault 102: store\n")?;
     told.push_str("\n\n")?;
@@ -240,7 +240,7 @@ fn around_a_keying<'a>(
     ]
 }
 
-/// Orders arrive while one client connects; they and the client get these responses.
+/// Orders arrive while one client connects; they and the client get the given responses.
 fn with_one_client<'a, M: TestHost + Drop>(
     rt: &(impl Abort + AllocGlobal),
     host: M,
@@ -255,8 +255,8 @@ fn with_one_client<'a, M: TestHost + Drop>(
     expect(rt, host, &[(step, (0, told, "Ok(())"))])
 }
 
-/// Orders are processed in turn with clients: one order before a keying prints the ward's status, and one after it imports a
-/// keying. They arrive a few bytes at a time, and don't count as clients.
+/// Orders are processed in turn with clients: an order before a keying prints the ward's status, and one after it
+/// imports a keying. They arrive a few bytes at a time, and don't count as clients.
 fn come_among_clients<M: TestHost + Drop>(
     rt: &(impl Abort + AllocGlobal),
     host: M,
@@ -281,7 +281,7 @@ fn come_among_clients<M: TestHost + Drop>(
     with_one_client(rt, host, &clients, out.as_str())
 }
 
-/// A script is processed as a whole. A refusal is printed with the number of its line, and the effects of earlier lines remain.
+/// A script is processed as a whole. A refusal is printed with its line number, and the effects of earlier lines remain.
 fn follow_scripts<M: TestHost + Drop>(rt: &(impl Abort + AllocGlobal), host: M) -> Result<M, Fail> {
     let given = HandedOrder {
         files: SCRIPTED,
@@ -293,8 +293,8 @@ fn follow_scripts<M: TestHost + Drop>(rt: &(impl Abort + AllocGlobal), host: M) 
     are_told(rt, host, &orders, told.as_str())
 }
 
-/// Orders' connections break at each byte that they accept. The first of them stores the keying, and the others get the same
-/// reply.
+/// The connections of orders break at each byte that they accept. The first order stores the keying, and the others get
+/// the same reply.
 fn break_at_each_byte<M: TestHost + Drop>(
     rt: &(impl Abort + AllocGlobal),
     host: M,

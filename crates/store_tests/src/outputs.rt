@@ -1,5 +1,6 @@
-//! Outputs that fail: they accept a prefix, acknowledged requests remain done, no further requests are sent, and the same order,
-//! repeated, produces its whole output. (That this holds at every byte is proved; here is one case of each kind.)
+//! Outputs that fail: they accept a prefix, acknowledged requests remain done, no further requests are sent, and the
+//! same order, repeated, produces its whole output. (It is proved that this holds at every byte; here is one case of
+//! each kind.)
 
 use super::disks::Disks;
 use super::steps::{OutputLimits, Step};
@@ -10,7 +11,7 @@ use std::test::Fail;
 /// The fault for an output that fails.
 const BROKEN: &str = "fault 107: socket or output\n";
 
-/// Returns outputs that accept at most this many bytes each.
+/// Returns outputs that accept at most `out` and `err` bytes.
 fn limits(out: usize, err: usize) -> OutputLimits {
     OutputLimits { out, err }
 }
@@ -41,7 +42,7 @@ fn has_taken_a_beginning<M: TestHost + Drop>(rt: &(impl Abort + AllocGlobal)) ->
             (3, "ward ", BROKEN),
         ),
         (Step::Order(WARD), (0, "ward 7 added\n", "")),
-        // A reply is cut off, and so is the fault's message.
+        // A reply is cut off, as is the fault's message.
         (
             Step::BreakingOrder(WARD, b"", limits(0, 4)),
             (3, "", "faul"),
@@ -52,7 +53,8 @@ fn has_taken_a_beginning<M: TestHost + Drop>(rt: &(impl Abort + AllocGlobal)) ->
             (3, "", "refused "),
         ),
         (Step::Order(PIER), (1, "", "refused 6: ward exists\n")),
-        // An import is cut off within its first line, so the second candidate isn't added; and within its second line.
+        // An import is cut off within its first line, so that the second candidate isn't added, and then within its
+        // second line.
         (
             Step::BreakingOrder(IMPORT, NAMES, limits(27, every)),
             (3, "candidate 1 of ward 7 added", BROKEN),

@@ -13,7 +13,7 @@ use std::net::{Ipv4Addr, SocketAddr, TcpStream};
 use std::process::Abort;
 use std::test::Fail;
 
-/// Returns a client that has sent this, and stays connected.
+/// Returns a client that has sent `sends` and stays connected.
 fn connected(rt: &HostRuntime, office: SocketAddr, sends: &str) -> Result<TcpStream, Fail> {
     let mut stream = TcpStream::connect(rt, office)?;
     stream.write_all(sends.as_bytes())?;
@@ -34,7 +34,7 @@ fn serve<M: TestHost + Drop>(rt: &(impl Abort + AllocGlobal), port: &Port) -> Re
     Ok(())
 }
 
-/// The first of three clients is silent. It delays neither of the others, and is closed.
+/// The first of three clients is silent. It delays neither of the other two, and is closed.
 #[test]
 fn connections_are_answered_side_by_side(rt: HostRuntime) -> Result<(), Fail> {
     let listener = TcpListener::bind(&rt, SocketAddr::from((Ipv4Addr::LOCALHOST, 0)))?;

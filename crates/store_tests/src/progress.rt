@@ -1,4 +1,4 @@
-//! A long output prints its progress, and that doesn't change the output.
+//! A long output prints its progress, which doesn't change the output.
 
 use super::clients::LimitedWriter;
 use desk::ProgressSink;

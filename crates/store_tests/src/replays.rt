@@ -1,4 +1,4 @@
-//! Scripts on files that stop: a prefix of their requests is stored. (Their other outcomes are played in
+//! Scripts on files that stop: a prefix of their requests is stored. (Their other outcomes are covered by
 //! examples/transcripts/replays.txt.)
 
 use super::disks::Disks;
@@ -11,7 +11,7 @@ use std::test::Fail;
 
 const MADE: &[Act] = &[Act::Typed("$ init\noffice ready\n")];
 
-/// The requests of the script, as one order each.
+/// The script's requests, as one order each.
 const REQUESTS: &str = "$ ward 7 1 Harbour --id w1
 ward 7 added
 $ import-candidates FILE --id c
@@ -40,7 +40,7 @@ const STOPPED_SHELF: TestFiles<'static> = &[
     ("clerk.csv", b"paper,1,2\n1,1,2\n"),
 ];
 
-/// The script, and the same script with a line that is refused.
+/// The script, and the same script with a refused line.
 const STOPPED_SCRIPTS: [Case<'static>; 2] = [
     (
         Step::Script(
@@ -84,7 +84,7 @@ candidate 2 of ward 7 added
     ),
 ];
 
-/// Returns the rows after each prefix of the requests, beginning with the empty one.
+/// Returns the rows after each prefix of the requests, beginning with the empty prefix.
 fn beginnings<M: TestHost + Drop>(
     rt: &(impl Abort + AllocGlobal),
     host: M,
@@ -100,9 +100,9 @@ fn beginnings<M: TestHost + Drop>(
     Ok(all)
 }
 
-/// Runs a script on disks of which one stops after this many calls, restarts them, and checks the rows: they must be those after
-/// the acknowledged requests, or after one more. Repeated, the script must have its whole output, and the rows must be the same
-/// as without the stop. Returns whether nothing stopped.
+/// Runs a script on disks, one of which stops after a number of calls, restarts them, and checks the rows: they must be
+/// those after the acknowledged requests, or after one additional request. When repeated, the script must have its
+/// whole output, and the rows must be the same as without the stop. Returns whether nothing stopped.
 fn stop_script<M: TestHost + Drop>(
     rt: &(impl Abort + AllocGlobal),
     host: M,

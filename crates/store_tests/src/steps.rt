@@ -1,4 +1,4 @@
-//! Steps on an open database, and the output of each. Nothing here names a store.
+//! Steps on an open database, and the output of each. This module names no store.
 
 ghost use Rattle.std.specs.Prelude.{◌≡◌, ◌+◌, ◌-◌, ◌^◌, ◌<◌, Some, true};
 
@@ -20,22 +20,22 @@ use wire::{Gate, HttpSettings, Page};
 /// One step of a script.
 #[derive(Clone, Copy, Debug)]
 pub enum Step<'a> {
-    /// An order, by its words. The file that they name doesn't exist.
+    /// An order, given by its words. The file that they name doesn't exist.
     Order(&'a [&'a str]),
-    /// The same, but the file that the words name has these bytes.
+    /// Like `Order`, except that the file named by the words has the given bytes.
     FileOrder(&'a [&'a str], &'a [u8]),
-    /// A script. Each file that it names has the bytes next to its path, and no other file exists.
+    /// A script. Each file it names has the bytes next to its path, and no other file exists.
     Script(&'a [u8], TestFiles<'a>),
-    /// The same, but each of the two outputs accepts a limited number of bytes.
+    /// Like `FileOrder`, but each of the two outputs accepts a limited number of bytes.
     BreakingOrder(&'a [&'a str], &'a [u8], OutputLimits),
     /// A list of requests to a new office; the answers are the output.
     List(&'a [Request]),
     /// A request to the open office for a clerk's work; the answer is the output.
     Work(u32),
-    /// Reading a ward's papers and count from the open store; they are the output.
+    /// Reading a ward's papers and count from the open store; the values read are the output.
     Loads(u32),
-    /// Serving clients of the open office; accepting a client may fail, and connections may break. The responses are the output,
-    /// separated by line feeds. The outcome of serving is the error output.
+    /// Serving clients of the open office; accepting a client may fail, and connections may break. The responses,
+    /// separated by line feeds, are the output. The outcome of serving is the error output.
     Serve(Evening<'a>),
     /// Serving clients of the open office on a port, while the clock jumps by more than half a minute; the outcome is the output.
     Listen(&'a Port),
@@ -48,7 +48,7 @@ pub enum Step<'a> {
 /// Files in memory: the path and the bytes of each.
 pub type TestFiles<'a> = &'a [(&'a str, &'a [u8])];
 
-/// A folder with these files, and the file that the words name.
+/// A folder with the given files, and the file named by the words.
 #[derive(Clone, Copy)]
 struct OpenTestFiles<'a> {
     named: Option<&'a str>,
@@ -75,7 +75,7 @@ impl<'a> Folder for OpenTestFiles<'a> {
 /// The words of the order that runs a script.
 const REPLAY: &[&str] = &["DB", "replay", "FILE"];
 
-/// The number of bytes that the output accepts before it fails, and the same for the error output.
+/// The number of bytes that the output accepts before it fails, and the number that the error output accepts.
 #[derive(Clone, Copy, Debug)]
 pub struct OutputLimits {
     pub out: usize,
@@ -94,10 +94,10 @@ pub type StepExpected<'a> = (u8, &'a str, &'a str);
 /// A step, and its expected result.
 pub type Case<'a> = (Step<'a>, StepExpected<'a>);
 
-/// The output of an order if the store stopped; it never reports a failed allocation.
+/// The output of an order if the store stopped; this never reports a failed allocation.
 pub const STOPPED: StepExpected<'static> = (3, "", "fault 102: store\n");
 
-/// The response to a client in that case.
+/// The response to a client if the store stopped.
 pub const STOPPED_ANSWER: &str =
     "HTTP/1.1 503 Service Unavailable\r\nContent-Type: application/json\r\nContent-Length: 13\r\nConnection: close\r\n\r\n{\"fault\":102}";
 
@@ -118,7 +118,7 @@ impl StepPrinted {
         }
     }
 
-    /// Returns whether its status is 0.
+    /// Returns whether the status is 0.
     pub fn is_done(&self) -> bool {
         self.status == 0
     }
@@ -237,7 +237,7 @@ fn work<S: Alter + Drop>(
     Ok((StepPrinted::printed_only(alloc, text), conn))
 }
 
-/// The settings for serving this file: no proxy, no codes, and no copies or journals.
+/// The settings for serving the test's file: no proxy, no codes, and no copies or journals.
 pub const SERVER_SETTINGS: ServerSettings<'static, Unaided> = ServerSettings {
     http: HttpSettings {
         origin: None,
@@ -262,7 +262,7 @@ fn codes_of(alloc: Global, evening: Evening<'_>) -> Result<Option<Codes>, Fail> 
     Ok(Some(held))
 }
 
-/// Returns the settings of a server with these codes.
+/// Returns the settings of a server with the given codes.
 fn terms_of(held: &Option<Codes>) -> ServerSettings<'_, Unaided> {
     let gate = match held {
         Some(codes) => Some(Gate {
@@ -403,7 +403,7 @@ fn listen<S: Alter + Drop>(
 
 const TABLES: &str = "SELECT name FROM sqlite_schema WHERE type = 'table' ORDER BY name";
 
-/// Returns every row of every table, in the order of the tables' names.
+/// Returns every row of every table, ordered by table name.
 fn contents<S: Alter + Drop>(alloc: Global, conn: &mut Connection<S>) -> Result<String, Fail> {
     let mut text = String::new(alloc);
     for found in conn.query_all(TABLES, &[])? {
@@ -436,7 +436,7 @@ fn ordered<S: Alter + Drop>(
     Ok((StepPrinted { status, out, err }, conn))
 }
 
-/// Copies the office of a connection to another.
+/// Copies the office from one connection to another.
 pub fn copied<S: Alter + Drop, T: Alter + Drop>(
     alloc: Global,
     conn: &mut Connection<S>,
@@ -481,7 +481,7 @@ fn done<S: Alter + Drop>(
     }
 }
 
-/// Runs the steps in turn, up to the first that reports a stop.
+/// Runs the steps in turn, up to and including the first one that reports a stop.
 pub fn play<S: Alter + Drop>(
     alloc: Global,
     mut conn: Connection<S>,

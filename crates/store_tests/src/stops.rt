@@ -1,6 +1,6 @@
-//! A store that stops at each of its calls in turn while one order is executed. After a restart it has either the old rows or all
-//! changes of the order; the same order, repeated, ends as if the store had never stopped. A client that comes after the one
-//! whose request met the stop gets a response that the office is closed.
+//! A store that stops at each of its calls in turn while one order is executed. After a restart it has either the old
+//! rows or all the changes made by the order; the same order, repeated, ends as if the store had never stopped. A
+//! client that connects after the one whose request hit the stop gets a response saying that the office is closed.
 
 mod counts;
 
@@ -22,10 +22,10 @@ const PAPERS: u32 = 500;
 /// The output of `init` if the office already exists.
 const MADE: StepExpected<'static> = (3, "", "fault 105: wrong database\n");
 
-/// The output of `migrate` for an office that is already at this version.
+/// The output of `migrate` for an office that already has this version.
 const MIGRATED: StepExpected<'static> = (0, "office is at version 2\n", "");
 
-/// Returns the expected output of a repeated order if all of its changes were already stored.
+/// Returns the expected output of a repeated order, given whether all its changes had already been stored.
 fn expect_repeated<'a>(case: Case<'a>, whole: bool) -> StepExpected<'a> {
     match case {
         (Step::Order(["DB", "init"]), _) if whole => MADE,
@@ -34,7 +34,7 @@ fn expect_repeated<'a>(case: Case<'a>, whole: bool) -> StepExpected<'a> {
     }
 }
 
-/// The rows of every table before an order and after it, and the ward's sheet after it, if there is one.
+/// The rows of every table before and after an order, and the ward's sheet afterwards, if there is one.
 #[derive(Drop)]
 struct Sides {
     before: String,
@@ -44,8 +44,8 @@ struct Sides {
 
 const SHEET: Step<'static> = Step::Order(&["DB", "sheet", "7"]);
 
-/// Executes an order on disks that don't stop, and returns the rows before and after it, and the disks. Repeated three times, the
-/// order must leave the rows unchanged.
+/// Executes an order on disks that don't stop, and returns the rows before and after it, and the disks. When repeated
+/// three times, the order must leave the rows unchanged.
 fn sides_of<M: TestHost + Drop>(
     rt: &(impl Abort + AllocGlobal),
     host: M,
@@ -68,8 +68,8 @@ fn sides_of<M: TestHost + Drop>(
     Ok((sides, host))
 }
 
-/// Executes an order on disks of which one stops after this many calls. Returns whether the order was acknowledged, and the
-/// disks.
+/// Executes an order on disks, one of which stops after a number of calls. Returns whether the order was acknowledged,
+/// and the disks.
 fn stop_under<M: TestHost + Drop>(
     rt: &(impl Abort + AllocGlobal),
     host: M,
@@ -89,9 +89,10 @@ fn stop_under<M: TestHost + Drop>(
     Ok((answered, left))
 }
 
-/// Executes an order on disks of which one stops after this many calls, restarts them, and checks the rows: they must be those
-/// before the order or those after it, and only those after it if it was acknowledged. Repeated, the order must end as without
-/// the stop, and the ward's sheet must be the same. Returns whether the order was acknowledged.
+/// Executes an order on disks, one of which stops after a number of calls, restarts them, and checks the rows: they
+/// must be those before the order or those after it, and only those after it if it was acknowledged. When repeated, the
+/// order must end as it does without the stop, and the ward's sheet must be the same. Returns whether the order was
+/// acknowledged.
 fn stop_once<M: TestHost + Drop>(
     rt: &(impl Abort + AllocGlobal),
     host: M,
@@ -151,15 +152,15 @@ fn stop_each<M: TestHost + Drop>(
     Err(Fail::from("no run was long enough"))
 }
 
-/// The first orders of an office, on new files.
+/// The first orders to an office, on new files.
 const FIRST: &str = "$ init
 office ready
 $ ward 7 2 Harbour --id w1
 ward 7 added
 ";
 
-/// The orders from nominations to a batch; each is one request. (An import of candidates is one request per record, so a stop may
-/// leave some of them stored.)
+/// The orders from nominations to a batch; each is one request. (An import of candidates is one request per record, so
+/// after a stop only some of them may be stored.)
 const TO_BATCH: &str = "$ withdraw 7 3 --id x1
 candidate 3 of ward 7 withdrawn
 $ candidate 7 3 Cy --id c4
@@ -196,7 +197,7 @@ $ import-keying 9 12 1 FILE --id k1
 batch 12 round 1 keyed
 ";
 
-/// The batch gets a third clerk, and a new round.
+/// The batch gets a third clerk and a new round.
 const NEW_ROUND: &str = "$ third 12 5 --id t1
 batch 12 third clerk 5
 $ again 12 --id g1
@@ -238,7 +239,7 @@ pub fn stop_orders<M: TestHost + Drop>(
     Ok(())
 }
 
-// A test may run for 60 seconds, so the many calls on the log are split among several tests.
+// A test may run for 60 seconds, so the many calls on the log are split across several tests.
 #[test]
 fn the_first_orders_stop_whole_at_their_log(rt: HostRuntime) -> Result<(), Fail> {
     stop_orders::<Disks>(&rt, &[], FIRST, File::Log)
@@ -275,7 +276,7 @@ fn orders_stop_whole_at_their_database(rt: HostRuntime) -> Result<(), Fail> {
     stop_orders::<Disks>(&rt, &batch, TO_VERDICT, File::Database)
 }
 
-/// A batch of as many papers as a batch may have.
+/// A batch with as many papers as a batch may have.
 const GIVEN_OUT_WHOLE: &str = "$ close 7 --id n1
 ward 7 polled
 $ batch 12 7 500 4 9 --id b1
@@ -303,15 +304,15 @@ fn a_large_keying_stops_whole(rt: HostRuntime) -> Result<(), Fail> {
 const CLOSED_ANSWER: &str =
     "\nHTTP/1.1 503 Service Unavailable\r\nContent-Type: application/json\r\nContent-Length: 13\r\nConnection: close\r\n\r\n{\"fault\":104}";
 
-/// When the store stopped during the keyings of two clients in turn.
+/// When the store stopped during two clients' keyings, one after the other.
 enum StoreStop {
     AtTheOpening,
     AtTheFirst,
     BehindTheFirst,
 }
 
-/// Two clients key on disks whose log stops after this many calls. If the first gets the fault for the stop, the second gets a
-/// response that the office is closed.
+/// Two clients key on disks whose log stops after `calls` calls. If the first gets the fault for the stop, the second
+/// gets a response saying that the office is closed.
 fn stop_twice<M: TestHost + Drop>(
     rt: &(impl Abort + AllocGlobal),
     host: &M,

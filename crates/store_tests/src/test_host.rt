@@ -1,6 +1,6 @@
-//! Test steps with an office on the disks of a host that can be stopped.
+//! Test steps for an office on the disks of a host that can be stopped.
 //!
-//! They are generic over the host, so their proofs don't depend on the store, and are short.
+//! They are generic over the host, so their proofs are short and don't depend on the store.
 
 use super::steps::{Case, Step, StepPrinted};
 use super::transcripts::read;
@@ -20,7 +20,7 @@ pub enum File {
 pub enum Act {
     /// Orders and their replies, as a transcript.
     Typed(&'static str),
-    /// Both clerks of batch 12 key these same papers.
+    /// Both clerks of batch 12 key the given papers.
     Keyed(&'static str),
 }
 
@@ -29,16 +29,16 @@ pub trait TestHost: Sized {
     /// Returns new files; the log fails after `log` calls, and the database file after `db` calls.
     fn stopping(alloc: Global, log: u64, db: u64) -> Self;
 
-    /// Returns files with the same bytes, of which this one fails after this many calls.
+    /// Returns files with the same bytes, of which `file` fails after `calls` calls.
     fn copied(&self, alloc: Global, file: File, calls: u64) -> Result<Self, Fail>;
 
-    /// Restarts the host: bytes that weren't synced are lost, and no call fails from then on.
+    /// Restarts the host: unsynced bytes are lost, and no call fails from then on.
     fn restarted(self) -> Self;
 
-    /// Opens the database, and runs the steps on it. If the store stops while the database is being opened, nothing is printed.
+    /// Opens the database, and runs the steps on it. Nothing is printed if the store stops while the database is being opened.
     fn play(self, alloc: Global, script: &[Step<'_>]) -> Result<(Vec<StepPrinted>, Self), Fail>;
 
-    /// Copies the office to other files. If those stop while they are being opened, nothing is printed.
+    /// Copies the office to other files. Nothing is printed if those stop while being opened.
     fn copy_onto(
         self,
         alloc: Global,
@@ -52,7 +52,7 @@ fn sorted(alloc: Global, rows: &str) -> Result<Vec<&str>, Fail> {
     Ok(lines)
 }
 
-/// Returns whether the rows are the same, in any order.
+/// Returns whether both texts have the same rows, in any order.
 pub fn are_same(alloc: Global, rows: &str, others: &str) -> Result<bool, Fail> {
     Ok(sorted(alloc, rows)?.as_slice() == sorted(alloc, others)?.as_slice())
 }
@@ -86,7 +86,7 @@ pub fn rows<M: TestHost + Drop>(alloc: Global, host: M) -> Result<(String, M), F
     }
 }
 
-/// Runs a transcript's orders, each of which must have the reply in the transcript.
+/// Runs a transcript's orders, each of which must get the reply in the transcript.
 pub fn follow<M: TestHost + Drop>(
     rt: &(impl Abort + AllocGlobal),
     host: M,
@@ -97,7 +97,7 @@ pub fn follow<M: TestHost + Drop>(
     expect(rt, host, &cases)
 }
 
-/// Runs the steps, each of which must have its expected result, and none of which may change a row.
+/// Runs the steps, each of which must have its expected result and none of which may change a row.
 pub fn expect_unchanged<M: TestHost + Drop>(
     rt: &(impl Abort + AllocGlobal),
     host: M,
@@ -109,7 +109,7 @@ pub fn expect_unchanged<M: TestHost + Drop>(
     Ok(host)
 }
 
-/// Does the same for one step.
+/// Does the same as `expect_unchanged` for a single step.
 pub fn hear_one_unchanged<M: TestHost + Drop>(
     rt: &(impl Abort + AllocGlobal),
     host: M,
@@ -118,7 +118,7 @@ pub fn hear_one_unchanged<M: TestHost + Drop>(
     expect_unchanged(rt, host, &[case])
 }
 
-/// Both clerks of batch 12 key these papers, given as a file's text.
+/// Has both clerks of batch 12 key the given papers, which are the text of a file.
 fn key<M: TestHost + Drop>(
     rt: &(impl Abort + AllocGlobal),
     host: M,
@@ -157,7 +157,7 @@ pub fn do_act<M: TestHost + Drop>(
     }
 }
 
-/// Runs parts on new files.
+/// Runs the given parts on new files.
 pub fn run_parts<M: TestHost + Drop>(
     rt: &(impl Abort + AllocGlobal),
     acts: &[Act],

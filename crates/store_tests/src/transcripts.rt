@@ -10,14 +10,15 @@
 //! # UPDATE ward SET phase = 2
 //! ```
 //!
-//! A line `$ ..` contains the words after DB, separated by single spaces; `# ..` contains SQL statements, for any database. The
-//! lines below it are those of the file that the words name, those of the output, and, after a status, those of the error output.
+//! A line `$ ..` contains the words after DB, separated by single spaces; `# ..` contains SQL statements for any
+//! database. The lines below it are those of the file named by the words, those of the output, and, after a status,
+//! those of the error output.
 
 use super::steps::{Case, Step};
 use std::alloc::{AllocError, Global};
 use std::test::Fail;
 
-/// An order with the file that it names, and its expected result.
+/// An order with the file it names, and its expected result.
 #[derive(Drop)]
 pub struct Typed<'a> {
     is_order: bool,
@@ -51,7 +52,7 @@ impl<'a> Typed<'a> {
         })
     }
 
-    /// Adds one of the lines below the words.
+    /// Adds a line that follows the words.
     fn take(&mut self, alloc: Global, line: &str) -> Result<(), Fail> {
         if let Some(row) = line.strip_prefix("< ") {
             let mut file = match self.file.take() {

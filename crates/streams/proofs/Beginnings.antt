@@ -1,4 +1,4 @@
--- Prefixes of bytes, accepted one after the other.
+-- Prefixes of bytes, accepted one after another.
 use Rattle.std.proofs.Common.{ℕ, ◌+◌, min, List, ◌++◌, length, take, drop, Option, sym, ◌∙◌, subst, arith}
 use Rattle.std.proofs.Math.Seq.{take-add, take-append-add}
 use Rattle.std.proofs.lemmas.List.{take_min, take-append-le}
@@ -6,7 +6,7 @@ use Rattle.std.proofs.KnownBytes.{Appends-trans}
 use Rattle.std.specs.Io.KnownBytes.{Appends}
 use Rattle.streams.specs.Streams.{AppendsBeginning}
 
--- a prefix that was accepted, followed by the bytes accepted next, is a longer prefix
+-- an accepted prefix, followed by the bytes accepted next, is a longer prefix
 pub Appends-take_more : (old mid new : Option (List ℕ)) (bs : List ℕ) (at n : ℕ) →
     Appends old mid (take at bs) → Appends mid new (take n (drop at bs)) → Appends old new (take (at + n) bs)
 Appends-take_more old mid new bs at n first next =

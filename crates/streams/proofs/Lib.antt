@@ -1,2 +1,2 @@
--- The lemmas, by subject.
+-- The lemmas, grouped by subject.
 pub mod Beginnings

@@ -1,4 +1,4 @@
-//! Counts the failures of a standard-library reader or writer.
+//! Wraps a standard-library reader or writer and counts its failures.
 
 ghost use Rattle.std.specs.Prelude.{◌≡◌, ◌+◌, ◌-◌, ◌^◌, ◌<◌};
 ghost use Rattle.streams.specs.Counted.{stream_of, failed_calls, taken_of, given_of};
@@ -9,7 +9,8 @@ use std::io::{Read, Write};
 
 /// A sink made from a writer, or a source made from a reader.
 ///
-/// An error of the writer or reader counts as a failure, and so does a write that accepts none of the bytes of a nonempty slice.
+/// An error from the writer or reader counts as a failure, and so does a write that accepts none of the bytes of a nonempty
+/// slice.
 #[derive(Drop)]
 pub struct Counted<T> {
     stream: T,
@@ -37,7 +38,7 @@ impl<T> Counted<T> {
 }
 
 /// Returns how many of `len` bytes a writer accepted, given the result of a write. Returns `None` for a failure: an error, or no
-/// bytes accepted although there are some.
+/// bytes accepted when there are any to accept.
 fn taken(answer: io::Result<usize>, len: usize) -> Option<usize>
     ensures { result ≡ taken_of len answer }
 {
@@ -47,7 +48,7 @@ fn taken(answer: io::Result<usize>, len: usize) -> Option<usize>
     }
 }
 
-/// Returns how many bytes a reader supplied, given the result of a read. Returns `None` for an error, which is a failure.
+/// Returns how many bytes a reader supplied, given the result of a read. Returns `None` for an error, which counts as a failure.
 fn count_read(answer: io::Result<usize>) -> Option<usize>
     ensures { result ≡ given_of answer }
 {

@@ -1,4 +1,4 @@
-//! Byte streams that count their failed calls.
+//! Byte streams that count failed calls.
 //!
 //! A [`Sink`] accepts bytes, and a [`Source`] supplies them. [`Counted`] turns a standard-library writer into
 //! a sink, or a reader into a source.
@@ -11,7 +11,7 @@
 
 // sinks and sources of bytes
 mod streams;
-// streams of the standard library
+// streams from the standard library
 mod counted;
 
 pub use counted::Counted;

@@ -1,4 +1,4 @@
-//! Byte sinks and byte sources, each of which counts its failed calls.
+//! Byte sinks and byte sources, each of which counts failed calls.
 
 ghost use Rattle.std.specs.Prelude.{◌≡◌, ℕ, ◌+◌, ◌-◌, ◌^◌, ◌<◌, ◌≤◌, List, length, take, IfOk, OnOk, OnErr, Option};
 ghost use Rattle.std.specs.Io.KnownBytes.{Appends, Consumes, IsAtEnd, Keeps};
@@ -6,14 +6,14 @@ ghost use Rattle.streams.specs.Streams.{AppendsBeginning};
 
 use thiserror::Error;
 
-/// A call to a sink or a source failed, and its count of failures went up by one.
+/// A call to a sink or a source failed, and its count of failures increased by one.
 #[derive(Clone, Copy, Debug, PartialEq, Eq, Error)]
 #[error("broken stream")]
 pub struct Broken;
 
-/// A destination of bytes that counts its failed calls.
+/// A destination for bytes that counts failed calls.
 pub trait Sink {
-    /// The bytes accepted so far, as far as they are known.
+    /// The bytes accepted so far, if known.
     ghost taken: { Self → Option (List ℕ) };
 
     /// The number of failed calls.
@@ -36,16 +36,16 @@ pub trait Sink {
         ensures { result ≡ failed self.now };
 }
 
-/// A source of bytes that counts its failed calls.
+/// A source of bytes that counts failed calls.
 pub trait Source {
-    /// The bytes still to be read, as far as they are known.
+    /// The bytes still to be read, if known.
     ghost held: { Self → Option (List ℕ) };
 
-    /// The number of failed calls.
+    /// The number of failed calls so far.
     ghost failed: { Self → ℕ };
 
-    /// Reads the next bytes into the front of a buffer, and returns how many: none only if the buffer is empty or the source is
-    /// at its end.
+    /// Reads the next bytes into the front of a buffer and returns how many there are: 0 only if the buffer is empty or the
+    /// source is exhausted.
     ///
     /// After `Broken`, the bytes still to be read are unchanged; the content of the buffer is unspecified.
     fn fetch(&mut self, room: &mut [u8]) -> Result<usize, Broken>
@@ -62,7 +62,7 @@ pub trait Source {
         ensures { result ≡ failed self.now };
 }
 
-/// Writes all of the bytes to a sink, in as many calls as needed.
+/// Writes all of the given bytes to a sink, in as many calls as needed.
 ///
 /// Returns `Broken` only if a call to the sink fails. The sink has then accepted a prefix of the bytes, and its count of failures
 /// is one higher.

@@ -1,4 +1,4 @@
-//! The calls of `count`: both kinds of book, their stages, and what is due.
+//! The functions of `count`: both kinds of book, their stages, and what comes next.
 
 ghost use Rattle.std.specs.Prelude.{◌≡◌, map, reverse, length, ◌<◌};
 ghost use Rattle.count.specs.Books.{placed};
@@ -55,7 +55,7 @@ fn place(book: &BundleBook<'_>, i: usize) -> Placed
     book.place(i)
 }
 
-/// Returns the stage of a lot for a surplus, and the candidates who are tied.
+/// Returns the stage of a lot for a surplus, and the tied candidates.
 fn tied_for_surplus(due: &Due) -> Option<(u8, Columns)> {
     match due {
         Due::Lot {
@@ -67,7 +67,7 @@ fn tied_for_surplus(due: &Due) -> Option<(u8, Columns)> {
     }
 }
 
-/// Returns the candidate that an action is about; 0 if there is none.
+/// Returns the candidate that an action concerns; 0 if there is none.
 fn candidate_of(action: Action) -> u8 {
     match action {
         Action::First => 0,
@@ -82,8 +82,8 @@ fn two() -> Columns {
     Columns::empty().with(1).with(2)
 }
 
-/// Returns how a count of these papers ends with parcels, and how a count of no papers ends with bundles: with no papers, each
-/// waits for a lot.
+/// Returns how a count of the given papers ends with parcels, and how a count of no papers ends with bundles: with no
+/// papers, each waits for a lot.
 fn ends(rt: &impl Abort, alloc: Global, papers: &[Prefs]) -> Result<(CountEnd, CountEnd), Fail> {
     let candidates = two();
     assert!(rt; can_be_counted(&candidates, 1, papers));

@@ -1,4 +1,4 @@
-//! The calls of `desk`: parsing words as an order, and executing the order on a connection and its file.
+//! The functions of `desk`: parsing words as an order, and executing the order on a connection and its file.
 
 ghost use Rattle.std.specs.Prelude.{◌-◌, ◌^◌, ◌<◌, IsSome};
 ghost use Rattle.desk.specs.Orders.{task_of};

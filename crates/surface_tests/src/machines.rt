@@ -1,4 +1,4 @@
-//! The calls of `register`: each command, and the decision on it.
+//! The functions of `register`: each command, and the decision on it.
 
 use register::{Command, CommandInput, Decision, Request, Verdict, View, decide};
 use std::alloc::{AllocError, Global};
@@ -9,7 +9,7 @@ fn decision_on(alloc: Global, view: &View<'_>, command: &Command) -> Result<Deci
     decide(alloc, view, command)
 }
 
-/// Returns the view that the machine has of an empty office, for a request with this id.
+/// Returns the machine's view of an empty office, for a request with the given id.
 fn view_of(alloc: Global, id: &str) -> View<'_> {
     View {
         actor: 0,
@@ -19,7 +19,7 @@ fn view_of(alloc: Global, id: &str) -> View<'_> {
     }
 }
 
-/// Returns the number of a refusal and the length of its text in bytes; `None` if the request is accepted or is a repetition.
+/// Returns a refusal's number and the length of its text in bytes; `None` if the request is accepted or is a repetition.
 fn refusal_in(decision: &Decision) -> Option<(u32, usize)> {
     match decision {
         Decision::Accepted(_, _) => None,
@@ -36,7 +36,7 @@ fn request(id: String, command: Command) -> Request {
     }
 }
 
-/// Returns the commands that contain only numbers.
+/// Returns the commands made up only of numbers.
 fn commands() -> [Command; 10] {
     [
         Command::withdraw(7, 1),
@@ -52,7 +52,7 @@ fn commands() -> [Command; 10] {
     ]
 }
 
-/// Returns the commands that contain texts.
+/// Returns the commands that include texts.
 fn texts(alloc: Global) -> Result<[Command; 3], AllocError> {
     Ok([
         Command::add_ward(7, 2, String::from_str(alloc, "Harbour")?),
@@ -61,7 +61,7 @@ fn texts(alloc: Global) -> Result<[Command; 3], AllocError> {
     ])
 }
 
-/// Returns the number of the refusal of a command with a bad id, and the length of its text.
+/// Returns the number of the refusal of a command with a bad id, and the length of the refusal's text.
 fn refused(alloc: Global, command: &Command) -> Result<Option<(u32, usize)>, AllocError> {
     let decision = decision_on(alloc, &view_of(alloc, "BAD"), command)?;
     Ok(refusal_in(&decision))

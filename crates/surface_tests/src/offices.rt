@@ -1,4 +1,4 @@
-//! The calls of `office` and `wire`: requests, reads, and serving one connection.
+//! The functions of `office` and `wire`: requests, reads, and serving one connection.
 
 ghost use Rattle.std.specs.Prelude.{◌-◌, ◌^◌, ◌<◌};
 

@@ -1,4 +1,4 @@
-//! The calls of `rowcheck`: the conditions on rows, by their numbers.
+//! The functions of `rowcheck`: the conditions on rows, by number.
 
 ghost use Rattle.std.specs.Prelude.{◌≡◌, true};
 ghost use Rattle.register.specs.StateConditions.{all_counted, all_in_range, all_keyed};

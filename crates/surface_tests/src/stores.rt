@@ -1,4 +1,4 @@
-//! The calls of `store`: creating, opening, reading and committing.
+//! The functions of `store`: creating, opening, reading and committing.
 
 use count::Bundles;
 use paper::Prefs;

@@ -1,4 +1,4 @@
-//! The calls of `sheet` and `keyfile`: the texts of a ward, and import files.
+//! The functions of `sheet` and `keyfile`: the texts of a ward, and import files.
 
 ghost use Rattle.std.specs.Prelude.{◌-◌, ◌^◌, ◌<◌};
 ghost use Rattle.sheet.specs.Wards.{CanBePrinted};
@@ -68,7 +68,7 @@ fn keying<R: Read + Drop>(alloc: Global, r: R, columns: Columns) -> Result<Vec<S
     read_keying(alloc, r, columns)
 }
 
-/// Returns the number of the fault in a keying for candidate 1; 0 if there is none, or if an allocation failed.
+/// Returns the number of the fault in a file with a keying for candidate 1; 0 if there is none or an allocation failed.
 fn fault_of(alloc: Global, file: &[u8]) -> u32 {
     match keying(alloc, file, Columns::empty().with(1)) {
         Ok(_) => 0,

@@ -1,4 +1,4 @@
-//! The calls of `votes` and `paper`: values and the streams to which their text is written, marks, and preferences.
+//! The functions of `votes` and `paper`: values and the streams to which their text is written, marks, and preferences.
 
 ghost use Rattle.std.specs.Prelude.{◌-◌, ◌^◌, ◌<◌};
 
@@ -18,7 +18,7 @@ fn put<W: Sink>(sink: &mut W, value: Votes) -> Result<usize, Broken>
     sink.put(b"\n")
 }
 
-/// Writes a value to memory. Also returns how many calls failed.
+/// Writes a value to memory, and also returns how many calls failed.
 fn put_in_memory(alloc: Global, value: Votes) -> (Result<usize, Broken>, u64) {
     let mut page = Vec::new(alloc);
     let mut sink = Counted::new(&mut page);
@@ -32,7 +32,7 @@ fn fetch<R: Source>(source: &mut R, room: &mut [u8]) -> Result<usize, Broken>
     source.fetch(room)
 }
 
-/// Reads from these bytes. Also returns how many calls failed.
+/// Reads from the given bytes, and also returns how many calls failed.
 fn fetch_from(bytes: &[u8]) -> (Result<usize, Broken>, u64) {
     let mut room = [0; 4];
     let mut source = Counted::new(bytes);

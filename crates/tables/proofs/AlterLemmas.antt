@@ -81,7 +81,7 @@ alters_told {r = Ok v} one told = record {
 }
 alters_told {r = Err f} one told = record { same_reference = one.same_reference; writes = λ clean y from. tt; keeps = one.keeps; survives = one.survives; cause = one.cause }
 
--- the same for a write to contents that equal others up to the order of rows
+-- the same statement for a write to contents that equal others up to the order of rows
 pub alters_same : {S X V : Type 0} {store : Ghosts S} {before after : MutBor (Held S)} {r : Result V Fault} {f : Contents → Contents} {from to : X → Contents}
     → Alters store before after r Sees (λ c. Sees (f c))
     → ((x : X) → SameContents (f (from x)) (to x)) → Alters store before after r (λ x. Sees (from x)) (λ x. Sees (to x))
@@ -112,13 +112,13 @@ alters_both {store = store} {a = a} {b = b} {c = c} {r = Err f} one two told =
       cause = two.cause;
     }
 
--- the same for a write to contents
+-- the same statement for a write to contents
 pub alters_sees : {S X V W : Type 0} {store : Ghosts S} {a b c : MutBor (Held S)} {v : V} {r : Result W Fault} {From : X → State → Type 0} {at : X → Contents} {f : Contents → Contents}
     → Alters store a b (Ok v) From (λ x. Sees (at x))
     → Alters store b c r Sees (λ rows. Sees (f rows)) → Alters store a c r From (λ x. Sees (f (at x)))
 alters_sees {at = at} one two = alters_both one two (λ x from sees. (at x, sees, λ given. given))
 
--- the same, without saying what the two writes result in
+-- the same statement, without the result of the two writes
 pub alters_after : {S X Y V W : Type 0} {store : Ghosts S} {a b c : MutBor (Held S)} {v : V} {w : W} {From Mid : X → State → Type 0} {Takes Gives : Y → State → Type 0}
     → Alters store a b (Ok v) From Mid
     → Alters store b c (Ok w) Takes Gives → Alters {V = W} store a c (Ok w) (λ (x : X) s. ⊥) (λ x s. ⊥)
@@ -151,7 +151,7 @@ alters_failed {r = Err e} is failed = record {
   cause = subst (λ (x : Fault). (x ≡ Memory) ⊎ (x ≡ Store)) (sym is) failed.cause;
 }
 
--- the failure of a write that follows another, passed on
+-- a failure in a write that follows another, passed on
 pub alters_cut : {S X Y Z U V W : Type 0} {store : Ghosts S} {a b c : MutBor (Held S)} {v : V} {f : Fault} {r : Result W Fault} {From Mid : X → State
     → Type 0} {Takes Gives : Y → State → Type 0} {To Into : Z → State → Type 0}
     → IsErrAnd r (λ e. e ≡ f) → Alters store a b (Ok v) From Mid → Alters {V = U} store b c (Err f) Takes Gives → Alters store a c r To Into

@@ -1,4 +1,4 @@
--- Why a query of a table fails: an allocation failed, or the store failed.
+-- Why a query on a table fails: an allocation failed, or the store failed.
 use Rattle.std.proofs.Common.{◌≡◌, ◌≢◌, ◌⊎◌, inl, inr, ℕ, ◌+◌, ◌≤◌, List, [], ◌∷◌, length, append-nil, Bool, true, false, Ok, Err, Result, IfErr, IsTrue, zero, suc, ℤ, ◌&&◌, refl, sym, ap}
 use Rattle.std.proofs.Common.{subst, ◌∙◌, arith, true≢false}
 use Rattle.sqlite_trees.specs.declared.error.StoreError.{StoreError}
@@ -77,7 +77,7 @@ pub failed_by : (old new : State) (f : Fault) → FailsBy old new f → f ≡ St
 failed_by old new f (inl memory) store = absurd (let no : Memory ≡ Store = sym memory ∙ store in cc)
 failed_by old new f (inr failed) store = failed.1
 
--- the same for a read that lists rows
+-- the same statement for a read that lists rows
 pub if_fails_to_list : {X : Type 0} (db : Database) (old new : State) (r : Result X Fault) → IfErr r (FailsBy old new) → IfErr r (FailsToList db old new)
 if_fails_to_list db old new (Ok x) fails = tt
 if_fails_to_list db old new (Err f) fails = λ store. inl (failed_by old new f fails store)
@@ -99,7 +99,7 @@ store_fails old new Full h = inr (refl, inl h)
 store_fails old new Broken h = inr (refl, inr (inl h))
 store_fails old new Unstorable h = absurd h
 
--- the text of a query is a single statement, and all of its parameters are given
+-- the text of a query is a single statement, and all its parameters are given
 stated : (sql : List ℕ) (params : Row) (old : State) (r : Result Compiled CompileError) (e : Error) → understood old.now.schema sql ≡ r → IsPlain r → tail_of r ≡ length sql
     → asked_of r ≡ length params → ¬ IsNoStatement old sql params e
 stated sql params old (Err fault) e is plain whole given wrong = plain
@@ -148,7 +148,7 @@ either_way sql params old new f tells fails = go old.is_open refl
     go true is = fails is
     go false is = elim (query_cause sql params old new f tells) [ inl memory ↦ inl memory | inr store ↦ inr (store, inr (inl is)) ]
 
--- ---- the parameters are of the right kinds
+-- ---- the parameters have the correct kinds
 
 pub places_length : (k n : ℕ) → length (tests_from k n) ≡ n
 places_length k n = mapped_length _ (places_from k n) ∙ counted k n
@@ -174,7 +174,7 @@ pub behind : (v : Value) (more : Bool) → is_of Integer v && more ≡ true → 
 behind (Int n) more h = h
 behind _ more h = absurd (true≢false (sym h))
 
--- a query for the rows with a key prefix is accepted if its values are of the columns' kinds
+-- a query for the rows with a given key prefix is accepted if its values have the columns' kinds
 abbrev Accepts : Table → Row → Type 0
 Accepts t key =
     (rest : List Definition) (others : List Index) (views : List View)
@@ -250,7 +250,7 @@ accepts Third [] kinds low rest others views = refl
 accepts Third (a ∷ []) kinds low rest others views = rw (number_in a _ kinds).1 refl
 accepts Third (a ∷ b ∷ more) kinds low rest others views = absurd (omega (arith, low))
 
--- a query for the rows with a number in the column that refers to another table is accepted
+-- a query for the rows with a given number in the column that refers to another table is accepted
 pub accepts_reference : (r : Reference) (value : Value) → is_of Integer value ≡ true → (rest : List Definition) (others : List Index) (views : List View)
     → accepts_program (schema_from (1 + place_of (table_sought r)) rest others views) []
     (query (tree_of (table_sought r)) (op2 (Compare Eq Binary) (col 1 (suc (place_sought r))) (col 0 0) ∷ []) (columns_from 0 (length (columns_of (table_sought r))))
@@ -277,7 +277,7 @@ accepts_scan t rest others views = refl
 
 -- ---- the queries of a table
 
--- the query for all rows, under a schema that begins with the tables up to this one
+-- the query for all rows, under a schema that begins with the tables up to the given one
 pub all_fails : {X : Type 0} (t : Table) (db : Database) → BeginsTo t db.schema → (old new : State) (r : Result X Fault) → HasCleanDisk new → RestsAt db old
     → IfErr r (TellsQuery (scan_text t) [] old new) → IfErr r (FailsBy old new)
 all_fails t db begins old new r clean rests tells =
@@ -297,7 +297,7 @@ rowids_fail t changes db begins old new f clean rests tells =
 pub begun : (t : Table) (c : Contents) (s : State) → (IsTrue s.is_open → Rests c s) → IsTrue s.is_open → BeginsTo t s.now.schema
 begun t c s at is_open = begins_to t s.now.schema (office_of c s (at is_open)).begins
 
--- the query for the rows whose key begins with these values
+-- the query for the rows whose key begins with the given values
 pub key_fails : {X : Type 0} (t : Table) (n : ℕ) (key : Row) → length key ≡ n → n ≤ (shape t).key → begins_key t key ≡ true → (c : Contents) (old new : State) (r : Result X Fault)
     → HasCleanDisk new → RestsIfOpen c old → IfErr r (TellsQuery (select_text t n) key old new) → IfErr r (FailsBy old new)
 key_fails t n key many low kinds c old new (Ok x) clean at tells = tt
@@ -309,7 +309,7 @@ key_fails {X} t n key many low kinds c old new (Err f) clean at tells =
     if_fails schema (select_text t n) (tree_of t) _ _ _ _ ((selects t n low).select begins.rest begins.others begins.views) key (places_length 0 n ∙ sym many)
     (subst asked many (accepts t key kinds (omega (arith, many, low)) begins.rest begins.others begins.views)) {X = X} old new (Err f) clean begins.is tells)
 
--- the query for the rows with a value in the column that refers to another table
+-- the query for the rows with a given value in the column that refers to another table
 pub reference_fails : {X : Type 0} (k : Reference) (value : Value) → is_of Integer value ≡ true → (c : Contents) (old new : State) (r : Result X Fault)
     → HasCleanDisk new → RestsIfOpen c old → IfErr r (TellsQuery (select_by_reference_text k) (value ∷ []) old new) → IfErr r (FailsBy old new)
 reference_fails k value kind c old new (Ok x) clean at tells = tt

@@ -1,4 +1,4 @@
--- How UPDATEs, a DELETE, and many INSERTs or UPDATEs change the contents.
+-- How an UPDATE, a DELETE, and several INSERTs or UPDATEs change the contents.
 use Rattle.std.proofs.Common.{◌≡◌, inl, inr, ℕ, suc, ◌+◌, ◌==◌, drop, ◌<◌, List, [], ◌∷◌, ◌++◌, map, filter, fold, take, get_or, append_assoc, length, Bool, true, false, not, cond, Result}
 use Rattle.std.proofs.Common.{OnOk, IsTrue, refl, sym, ap, subst, ◌∙◌, arith, true≢false}
 use Rattle.std.proofs.Math.Seq.{take-suc}
@@ -33,7 +33,7 @@ use Rattle.tables.proofs.ReplaceLemmas.{shows_updated, replaces}
 
 -- ---- a DELETE
 
--- a DELETE removes the row with the key
+-- a DELETE removes the row with the given key
 pub row_removed : (t : Table) → changes_rows t ≡ true → (key : Row) (old new : State) (r : Result ℕ Error) → (IsTrue old.in_transaction → ExecutesInside 0 (delete_text t) key old new r)
     → (c : Contents) → Sees c old → OnOk r (Sees (removed t key c) new)
 unfolding removed
@@ -82,7 +82,7 @@ row_replaced t changing row kinds old new r runs c sees =
 
 -- ---- an UPDATE of one column
 
--- every column is unchanged, except the one that is set
+-- every column is unchanged except the one that is set
 shows_set : (place key : ℕ) (params r : Row) (ps : List ℕ) → eval_all (map (λ p. cond (p == place) (col 0 key) (col 1 (suc p))) ps) (params ∷ r ∷ [])
     ≡ map (λ p. cond (p == place) (column params key) (column (drop 1 r) p)) ps
 shows_set place key params r [] = refl
@@ -94,7 +94,7 @@ shows_set place key params r (p ∷ ps) = go (p == place) (shows_set place key p
     go true more = ap (λ l. column params key ∷ l) more
     go false more = ap (λ v. v ∷ eval_all (map (λ q. cond (q == place) (col 0 key) (col 1 (suc q))) ps) (params ∷ r ∷ [])) (later p r) ∙ ap (λ l. column (drop 1 r) p ∷ l) more
 
--- a row of the right kinds still has the right kinds
+-- a row with values of the correct kinds still has them
 typed_set : (cs : List Column) (k place : ℕ) (value : Value) (xs : Row) (f : ℕ → Value) → ((i : ℕ) → f (k + i) ≡ column xs i) → are_of cs xs ≡ true → takes_from k place value cs ≡ true
     → are_of cs (map (λ p. cond (p == place) value (f p)) (places_from k (length cs))) ≡ true
 typed_set [] k place value xs f same typed takes = refl
@@ -117,7 +117,7 @@ typed_set (c ∷ cs) k place value (x ∷ xs) f same typed takes =
 none_past : (i : ℕ) → 0 + i ≡ i
 none_past i = omega arith
 
--- an UPDATE of one column sets the value in that column of the row with the key
+-- an UPDATE of one column sets that column's value in the row with the given key
 pub value_set_there : (g : SettableColumn) (values : Row) → is_setting g values ≡ true → (old new : State) (r : Result ℕ Error)
     → (IsTrue old.in_transaction → ExecutesInside 0 (set_text g) values old new r)
     → (c : Contents) → Sees c old → OnOk r (Sees (value_put g values c) new)
@@ -151,9 +151,9 @@ value_set_there g values kind old new r runs c sees =
     ))
     r runs c sees
 
--- ---- many INSERTs
+-- ---- several INSERTs
 
--- no rows added, and one row added after others
+-- no rows added, and a row added after others
 none_more : (t : Table) (c : Contents) → SameContents c (added_all t [] c)
 unfolding added_all
 none_more t c u = elim (which_table t u) [ inl same ↦ rw same.0 (IsPermutation-refl (c u)) | inr other ↦ rw other.0 (IsPermutation-refl (c u)) ]
@@ -168,7 +168,7 @@ one_more t rows row c u = elim (which_table t u) [
 pub none_added : (t : Table) (c : Contents) (s : State) → Sees c s → Sees (added_all t [] c) s
 none_added t c s sees = sees_same c (added_all t [] c) s (none_more t c) sees
 
--- the rows before this one were added, and then this one
+-- the rows before this one have been added, and then this one
 pub next_added : (t : Table) (rows : List Row) (k : ℕ) (row : Row) → k < length rows → get_or rows k [] ≡ row → (c : Contents) (s : State) → Sees (added t row (added_all t (take k rows) c)) s
     → Sees (added_all t (take (k + 1) rows) c) s
 next_added t rows k row low is c s sees =
@@ -178,13 +178,13 @@ next_added t rows k row low is c s sees =
     plus : (n : ℕ) → n + 1 ≡ suc n
     plus n = omega arith
 
--- ---- many UPDATEs
+-- ---- several UPDATEs
 
 pub none_replaced : (t : Table) (c : Contents) (s : State) → Sees c s → Sees (replaced_all t [] c) s
 unfolding replaced_all
 none_replaced t c s sees = sees
 
--- the rows before this one were replaced, and then this one
+-- the rows before this one have been replaced, and then this one
 pub next_replaced : (t : Table) (rows : List Row) (k : ℕ) (row : Row) → k < length rows → get_or rows k [] ≡ row → (c : Contents) (s : State)
     → Sees (replaced t row (replaced_all t (take k rows) c)) s → Sees (replaced_all t (take (k + 1) rows) c) s
 unfolding replaced_all
@@ -207,7 +207,7 @@ replaced_rows t row same y alike (x ∷ xs) =
     one true later = ap (λ l. row y ∷ l) later
     one false later = ap (λ l. row x ∷ l) later
 
--- these rows, with the rows that have the same keys as others replaced by them, one after another
+-- the given rows, with each of the new rows, one after another, replacing the row with the same key
 abbrev pub all_replaced : Table → List Row → List Row → List Row
 all_replaced t = fold (λ rows row. map (λ r. cond (has_key t row r) row r) rows)
 
@@ -220,14 +220,14 @@ replaced_all_there t (row ∷ news) c u =
     ∙ elim (place_of u == place_of t) as (λ b. cond b (all_replaced t (cond b (map (λ r. cond (has_key t row r) row r) (c u)) (c u)) news)
     (cond b (map (λ r. cond (has_key t row r) row r) (c u)) (c u)) ≡ cond b (all_replaced t (map (λ r. cond (has_key t row r) row r) (c u)) news) (c u)) [ true ↦ refl | false ↦ refl ]
 
--- Replacing, one after another, the rows with the same keys as entries' rows replaces the entries with the same keys.
+-- Replacing the rows with the same keys as entries' rows, one after another, replaces the entries with the same keys.
 pub replaced_each : {X : Type 0} (t : Table) (row : X → Row) (same : X → X → Bool) → ((y x : X) → has_key t (row y) (row x) ≡ same y x) → (ys xs : List X)
     → all_replaced t (map row xs) (map row ys) ≡ map row (fold (λ zs y. map (λ z. cond (same y z) y z) zs) xs ys)
 replaced_each t row same alike [] xs = refl
 replaced_each t row same alike (y ∷ ys) xs =
     ap (λ rows. all_replaced t rows (map row ys)) (replaced_rows t row (same y) y (alike y) xs) ∙ replaced_each t row same alike ys (map (λ z. cond (same y z) y z) xs)
 
--- Setting a value in one column of the row with a key changes the entry with that key.
+-- Setting a value in one column of the row with a given key changes the entry with that key.
 pub rows_set : {X : Type 0} (g : SettableColumn) (values : Row) (row : X → Row) (same : X → Bool) (change : X → X) → ((x : X) → has_key (table_set g) values (row x) ≡ same x)
     → ((x : X) → with_value g (value_set g values) (row x) ≡ row (change x))
     → (xs : List X) → map (λ r. cond (has_key (table_set g) values r) (with_value g (value_set g values) r) r) (map row xs) ≡ map row (map (λ x. cond (same x) (change x) x) xs)
@@ -242,7 +242,7 @@ rows_set {X} g values row same change alike made (x ∷ xs) =
     one true more = ap (λ r. r ∷ map (λ q. cond (has_key (table_set g) values q) (with_value g (value_set g values) q) q) (map row xs)) (made x) ∙ ap (λ l. row (change x) ∷ l) more
     one false more = ap (λ l. row x ∷ l) more
 
--- The rows that don't have a key are the rows of the entries that don't have it.
+-- The rows that don't have a given key are the rows of the entries that don't have it.
 pub removed_rows : {X : Type 0} (t : Table) (key : Row) (row : X → Row) (same : X → Bool) → ((x : X) → has_key t key (row x) ≡ same x) → (xs : List X)
     → filter (λ r. not (has_key t key r)) (map row xs) ≡ map row (filter (λ x. not (same x)) xs)
 removed_rows t key row same alike xs = filter-map (λ r. not (has_key t key r)) row xs ∙ ap (map row) (filtered_same _ _ xs (λ x h. ap not (alike x)))

@@ -1,4 +1,4 @@
--- The values of a row, by their indices.
+-- The values of a row, by index.
 use Rattle.std.proofs.Common.{◌≡◌, ℕ, zero, suc, ◌<◌, ◌≤◌, List, [], ◌∷◌, length, true, refl, sym, ap, ◌∙◌, arith, true≢false}
 use Rattle.std.proofs.lemmas.Bool.{and_parts}
 use Rattle.sqlite.specs.declared.types.Value.{Value}
@@ -8,13 +8,13 @@ use Rattle.sqlite.specs.Order.{Row, column}
 use Rattle.tables.specs.Schema.{places_from}
 use Rattle.tables.specs.Rows.{at, are_of}
 
--- a row's first `n` values, with NULL for each that the row lacks
+-- a row's first `n` values, with NULL for each one that the row lacks
 abbrev pub padded : ℕ → Row → Row
 padded zero r = []
 padded (suc n) [] = Null ∷ padded n []
 padded (suc n) (v ∷ vs) = v ∷ padded n vs
 
--- A value in front shifts the indices by one.
+-- Prepending a value shifts the indices by one.
 shifted : (k n : ℕ) (v : Value) (r : Row) → at (places_from (suc k) n) (v ∷ r) ≡ at (places_from k n) r
 shifted k zero v r = refl
 shifted k (suc n) v r = ap (λ l. column r k ∷ l) (shifted (suc k) n v r)
@@ -59,7 +59,7 @@ padded_column (suc n) (suc k) (v ∷ vs) low = padded_column n k vs (omega (arit
 pub column_shown : (n k : ℕ) (r : Row) → k < n → column (at (places_from 0 n) r) k ≡ column r k
 column_shown n k r low = ap (λ (x : Row). column x k) (pads n r) ∙ padded_column n k r low
 
--- a row of the right kinds consists of the values at its indices
+-- a row with values of the correct kinds consists of the values at its indices
 pub typed_at : (cs : List Column) (r : Row) → are_of cs r ≡ true → at (places_from 0 (length cs)) r ≡ r
 typed_at cs r h = pads (length cs) r ∙ padded_itself (length cs) r (typed_length cs r h)
 
@@ -72,6 +72,6 @@ padded_front (suc m) zero r low = absurd (omega (arith, low))
 padded_front (suc m) (suc n) [] low = ap (λ l. Null ∷ l) (padded_front m n [] (omega (arith, low)))
 padded_front (suc m) (suc n) (v ∷ vs) low = ap (λ l. v ∷ l) (padded_front m n vs (omega (arith, low)))
 
--- a prefix of a longer prefix of a row is a prefix of the row
+-- a prefix of a prefix of a row is a prefix of the row
 pub at_front : (m n : ℕ) (r : Row) → m ≤ n → at (places_from 0 m) (at (places_from 0 n) r) ≡ at (places_from 0 m) r
 at_front m n r low = pads m (at (places_from 0 n) r) ∙ ap (padded m) (pads n r) ∙ padded_front m n r low ∙ sym (pads m r)

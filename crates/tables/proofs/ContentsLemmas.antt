@@ -25,7 +25,7 @@ use Rattle.tables.proofs.Inserts.{inserts_row, inserted, width_of}
 table_kept : (t : Table) (rows : List Row) (old new : Trees) → new (tree_of t) ≡ old (tree_of t) → HoldsTable t rows old → HoldsTable t rows new
 table_kept t rows old new same h = record { same = subst (λ l. IsPermutation rows (map (drop 1) l)) (sym same) h.same; keyed = λ changes. subst Keyed (sym same) (h.keyed changes); typed = h.typed }
 
--- one table is changed, and the others aren't
+-- one table changes, and the others don't
 pub holds_changed : (t : Table) (f : List Row → List Row) (old new : Trees) → ((rows : List Row) → HoldsTable t rows old → HoldsTable t (f rows) new)
     → ((u : Table) → tree_of u ≢ tree_of t → new (tree_of u) ≡ old (tree_of u)) → (c : Contents) → Holds c old → Holds (changed t f c) new
 holds_changed t f old new set others c h u = elim (which_table t u) [
@@ -33,7 +33,7 @@ holds_changed t f old new set others c h u = elim (which_table t u) [
   | inr other ↦ rw other.0 (table_kept u (c u) old new (others u other.1) (h u))
 ]
 
--- the trees of the office's other tables are unchanged if all other trees are
+-- the trees of the office's other tables are unchanged if all other trees are unchanged
 pub others_of : (rest : List Definition) (others : List Index) (views : List View) (t : Table) (old new : Trees)
     → AllByRecursion (λ d. d.tree ≢ tree_of t → new d.tree ≡ old d.tree) (schema_from 11 rest others views).tables → (u : Table) → tree_of u ≢ tree_of t → new (tree_of u) ≡ old (tree_of u)
 others_of rest others views t old new all u =
@@ -49,7 +49,7 @@ kept sql params old new (Err e) (inl h) = elim h.1 [
 ]
 kept sql params old new (Err e) (inr h) = record { was_open = λ _. h.2.0.was_open; committed = λ _. h.2.0.committed_is }
 
--- what a statement preserves of the last commit, even if the transaction had already ended
+-- what a statement preserves of the last commit, even if the transaction has already ended
 pub keeps : (sql : List ℕ) (params : Row) (old new : State) (r : Result ℕ Error) → (IsTrue old.in_transaction → ExecutesInside 0 sql params old new r)
     → (old.in_transaction ≡ false → new ≡ old) → KeepsCommit old new
 keeps sql params old new r runs ended = elim (cases_Bool old.in_transaction) [
@@ -64,7 +64,7 @@ module _ (t : Table) (f : List Row → List Row) (sql : List ℕ) (params : Row)
     → Executes sql params old new (Ok count)
     → (rows : List Row) → HoldsTable t rows old.now.trees → Changes (schema_from 11 rest others views) (tree_of t) old.now new.now × HoldsTable t (f rows) new.now.trees)
   where
-    -- the statement changes the table's rows, and those of no other table
+    -- the statement changes the table's rows, and no other table's
     pub table_changed : (r : Result ℕ Error) → (IsTrue old.in_transaction → ExecutesInside 0 sql params old new r) → (c : Contents) → Sees c old → OnOk r (Sees (changed t f c) new)
     unfolding IsOffice
     table_changed (Err e) runs c sees = tt

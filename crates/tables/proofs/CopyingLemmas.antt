@@ -1,4 +1,4 @@
--- What is known while the rows of a query's answer are copied one at a time.
+-- What is known while a query's rows are copied one at a time.
 use Rattle.std.proofs.Common.{◌≡◌, ◌⊎◌, inl, inr, ℕ, List, [], ◌∷◌, ◌++◌, map, true, false, Ok, Err, IsTrue, refl, sym, subst}
 use Rattle.std.specs.List.Sorted.{IsPermutation}
 use Rattle.sqlite_trees.specs.declared.store.Store.{Ghosts}

@@ -1,4 +1,4 @@
--- What each UPDATE and DELETE is parsed as, under a schema that begins with the tables.
+-- How each UPDATE and DELETE is parsed, under a schema that begins with the tables.
 use Rattle.std.proofs.Common.{◌≡◌, ℕ, suc, map, cond, ◌==◌, ◌-◌, List, [], ◌∷◌, ◌++◌, length, true, refl, sym, true≢false, slice_get, Some}
 use Rattle.sqlite.specs.Order.{Row}
 use Rattle.sqlite.specs.Tree.{Trees}
@@ -42,7 +42,7 @@ module _ (rest : List Definition) (others : List Index) (views : List View) wher
   abbrev schema : Schema
   schema = schema_from 11 rest others views
 
-  -- the conditions on a table's UPDATE and DELETE, which find their row by the key
+  -- the conditions on a table's UPDATE and DELETE, which find their row by its key
   pub record EditsRow (t : Table) : Type 0 where
     pub place : slice_get schema.tables (place_of t) ≡ Some (definition t)
     pub updates : command_of (understood schema (update_text t)) ≡ Update (place_of t) (record { lets = []; body = query (tree_of t) (tests_from 0 (shape t).key) (updated t) [] })

@@ -28,7 +28,7 @@ query_cause sql params old new f tells = subst (λ (x : Fault). (x ≡ Memory) �
 pub statement_cause : (sql : List ℕ) (params : Row) (old new : State) (f : Fault) → TellsStatement sql params old new f → (f ≡ Memory) ⊎ (f ≡ Store)
 statement_cause sql params old new f tells = subst (λ (x : Fault). (x ≡ Memory) ⊎ (x ≡ Store)) (sym tells.1) (cause_of tells.0)
 
--- all rows of a table, if integer rowids identify them in a table whose rows change
+-- a listing of all rows of a table, given that integer rowids identify them if rows change
 pub if_listed_keyed : {X : Type 0} (t : Table) (db : Database) (rows : X → List Row) (r : Result X Fault) → (changes_rows t ≡ true → Keyed (db.trees (tree_of t)))
     → IfOk r (λ x. Lists t (begins_with []) db (rows x)) → IfOk r (λ x. ListsKeyed t db (rows x))
 if_listed_keyed t db rows (Ok x) keyed lists = record { keyed = keyed; lists = lists }

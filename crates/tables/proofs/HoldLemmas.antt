@@ -33,7 +33,7 @@ use Rattle.tables.proofs.ListLemmas.{mapped_length, get_mapped, mapped_has, has_
 use Rattle.tables.proofs.ColumnPlaceLemmas.{padded, pads, at_twice, typed_at}
 use Rattle.tables.proofs.OrderLemmas.{row_total, rise_all, one_key}
 
--- ---- rows that obey a schema aren't longer than its columns
+-- ---- rows that obey a schema have no more values than it has columns
 
 width : (key : Option ℕ) (place : ℕ) (cs : List Column) (vs : Row) → are_typed key place cs vs ≡ true → length vs ≤ length cs
 width key place [] [] h = omega arith
@@ -41,7 +41,7 @@ width key place [] (v ∷ vs) h = absurd (true≢false (sym h))
 width key place (c ∷ cs) [] h = omega arith
 width key place (c ∷ cs) (v ∷ vs) h = let later : length vs ≤ length cs = width key (place + 1) cs vs (and_parts _ (are_typed key (place + 1) cs vs) h).1 in omega (arith, later)
 
--- each table is in a schema that begins with the tables up to it
+-- a schema that begins with the tables up to a given one has that table
 begun_has : (t : Table) (s : Schema) → BeginsTo t s → Has s.tables (definition t)
 begun_has Office s h = subst (λ (x : Schema). Has x.tables (definition Office)) (sym h.is) (inl refl)
 begun_has Ward s h = subst (λ (x : Schema). Has x.tables (definition Ward)) (sym h.is) (inr (inl refl))
@@ -91,7 +91,7 @@ values_of (c ∷ cs) (v ∷ vs) h = and_from _ _ (value_of c.kind v (and_parts _
 pub lists_all : (t : Table) (db : Database) (rows : List Row) → Lists t (begins_with []) db rows → IsPermutation (map (at (column_places t)) (tuples t db.trees)) rows
 lists_all t db rows lists = subst (λ l. IsPermutation (map (at (column_places t)) l) rows) (all_pass (tuples t db.trees)) lists.same
 
--- the rows that a query returns have all columns and no more
+-- the rows that a query returns have exactly the table's columns
 pub shown_rows : (t : Table) (test : Row → Bool) (db : Database) (rows : List Row) → Lists t test db rows → map (at (column_places t)) rows ≡ rows
 shown_rows t test db rows lists =
     mapped_same (at (column_places t)) (λ r. r) rows (λ r h.
@@ -101,7 +101,7 @@ shown_rows t test db rows lists =
     ap (at (column_places t)) raw.2 ∙ at_twice (length (columns_of t)) raw.0 ∙ sym raw.2)
     ∙ mapped_itself rows
 
--- rows of the right kinds that are returned by a query for all rows are the table's contents
+-- rows with values of the correct kinds, returned by a query for all rows, are the table's contents
 pub rows_held : (t : Table) (db : Database) → BeginsTo t db.schema → IsDatabase db → (rows : List Row) → ListsKeyed t db rows → list_all (is_row_of t) rows ≡ true → HoldsTable t rows db.trees
 rows_held t db begins sound rows keyed typed =
     let n = length (columns_of t) in
@@ -129,12 +129,12 @@ held_listed t db rows lists held holds =
 
 -- ---- rows that a table can't contain
 
--- a row that isn't of a kind is in no list of rows of that kind
+-- a row that isn't of a given kind is in no list of rows of that kind
 no_wrong : (IsRow : Row → Type 0) (rows : List Row) → HasInvalidRow IsRow rows → (held : List Row) → AllByRecursion IsRow held → IsPermutation held rows → ⊥
 no_wrong IsRow rows other held all same =
     other.2 (all_has IsRow held (get_or rows other.0 []) all (permuted_has (get_or rows other.0 []) rows held (IsPermutation-sym _ _ same) (has_at rows other.0 [] other.1)))
 
--- rows of which two have the same key aren't, in any order, a list in ascending key order
+-- rows with a repeated key don't form, in any order, a list in ascending key order
 no_repeat : (t : Table) (rows : List Row) → IsSorted (row_cmp t) rows → FailsToRise t rows → (held : List Row) → IsStrictlySortedBy (row_cmp t) held → IsPermutation held rows → ⊥
 no_repeat t rows sorted fails held rise same =
     let apart = IsDistinct-IsPermutation (eq_by_cmp (row_cmp t)) (eq_by_cmp_equiv (row_total t)).symm held rows same (IsDistinct-from_sorted (row_cmp t) held rise) in
@@ -200,7 +200,7 @@ rising_same {X} {cmp} total (x ∷ xs) (y ∷ ys) up above there back =
     ] in
     ap (λ z. z ∷ xs) head ∙ ap (λ l. y ∷ l) (rising_same total xs ys (sorted_tail cmp x xs up) (sorted_tail cmp y ys above) first second)
 
--- rows in key order that are a permutation of a list in ascending key order are that list
+-- if rows in key order are a permutation of a list in ascending key order, they are that list
 pub found_same : (t : Table) (rows held : List Row) → IsSorted (row_cmp t) rows → IsStrictlySortedBy (row_cmp t) held → IsPermutation held rows → held ≡ rows
 found_same t rows held sorted rise same =
     rising_same (row_total t) held rows rise (rise_all t rows each) (λ r h. permuted_has r held rows same h) (λ r h. permuted_has r rows held (IsPermutation-sym _ _ same) h)

@@ -47,7 +47,7 @@ put_fresh new (r ∷ rows) free = go (value_cmp (rowid r) (rowid new)) (or_parts
     go Equal other later = absurd (true≢false other)
     go Greater other later = IsPermutation-refl _
 
--- ---- how a column converts a value of its own kind
+-- ---- how a column converts a value that has the column's kind
 
 either : (b : Bool) (x : Value) → cond b x x ≡ x
 either true x = refl
@@ -75,13 +75,13 @@ cast_all_of (c ∷ cs) (v ∷ vs) h = ap (λ x. x ∷ cast_all cs vs) (one c.kin
 
 -- ---- the statement
 
--- one table's rows may have changed, and those of no other table
+-- one table's rows may have changed, and no other table's
 pub record Changes (schema : Schema) (tree : ℕ) (old new : Database) : Type 0 where
   pub is : new.schema ≡ schema
   pub sound : IsDatabase new
   pub others : AllByRecursion (λ t. t.tree ≢ tree → new.trees t.tree ≡ old.trees t.tree) schema.tables
 
--- one table has one more row
+-- one table has an additional row
 pub record Adds (schema : Schema) (tree : ℕ) (tuple : Row) (old new : Database) : Type 0 where
   pub changes : Changes schema tree old new
   pub row : IsPermutation (tuple ∷ map (drop 1) (old.trees tree)) (map (drop 1) (new.trees tree))
@@ -99,7 +99,7 @@ module _ (key : List ℕ) (name : List ℕ) (tree : ℕ) (columns : List Column)
     abbrev written : Trees → List Row → Trees → Written
     written db rows next = let news = (edit_of db table [] Chosen 0 rows).news in record { trees = next; rows = news; last = last_id news }
 
-    -- the end of the statement, for a table without a counter
+    -- how the statement ends, for a table without a counter
     abbrev ends : Trees → List Row → Option Row → Trees → Part Written
     ends db rows counter mid = Then (Counts task mid counter (fold higher (count_of counter) (edit_of db table [] Chosen 0 rows).news)) (λ next. Gives (written db rows next))
 

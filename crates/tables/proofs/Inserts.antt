@@ -1,4 +1,4 @@
--- What each INSERT is parsed as, under a schema that begins with the tables.
+-- How each INSERT is parsed, under a schema that begins with the tables.
 use Rattle.std.proofs.Common.{◌≡◌, ℕ, ◌+◌, List, [], ◌∷◌, ◌++◌, length, ◌/◌, refl, slice_get, Some, map}
 use Rattle.std.specs.List.{flat_map, filter_map}
 use Rattle.sqlite.specs.declared.types.Value.TheVariants.{Null}
@@ -26,7 +26,7 @@ pub none_from : (schema : Schema) (tree : ℕ) (olds news : List Row) (ts : List
 none_from schema tree olds news [] h = refl
 none_from schema tree olds news (t ∷ ts) h = rw h.0 (none_from schema tree olds news ts h.1)
 
--- the parameters with these indices, in order
+-- the parameters with the given indices, in order
 abbrev pub given : List ℕ → List Term
 given = map (col 0)
 
@@ -41,7 +41,7 @@ module _ (rest : List Definition) (others : List Index) (views : List View) wher
   abbrev schema : Schema
   schema = schema_from 11 rest others views
 
-  -- the conditions on the INSERT of a table
+  -- the conditions on a table's INSERT
   pub record InsertsRow (t : Table) : Type 0 where
     pub place : slice_get schema.tables (place_of t) ≡ Some (definition t)
     pub is : command_of (understood schema (insert_text t)) ≡ Insert (place_of t) (Values (inserted t) (width_of t))

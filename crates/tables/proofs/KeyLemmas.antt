@@ -1,4 +1,4 @@
--- Rows of the right kinds with the same key have equal values in the key's columns.
+-- Rows with values of the correct kinds and the same key have equal values in the key's columns.
 use Rattle.std.proofs.Common.{◌≡◌, ℕ, zero, suc, ◌+◌, ◌≤◌, List, [], ◌∷◌, ◌++◌, length, true, refl, sym, ap, ◌∙◌, arith, true≢false, ◌&&◌}
 use Rattle.std.proofs.lemmas.Bool.{and_parts}
 use Rattle.std.proofs.lemmas.List.{map-append}
@@ -65,7 +65,7 @@ places_split p (suc k) n = ap (λ m. p ∷ places_from (suc p) k ++ places_from 
 beyond_within : (t : Table) → (shape t).key + beyond_key t ≡ length (columns_of t)
 beyond_within t = let low = key_within t in omega (arith, low)
 
--- the key of one row, followed by the other values of a row with the same key, is that other row
+-- the key of one row, followed by the remaining values of another row with the same key, is that other row
 pub updated_row : (t : Table) (was row : Row) → is_row_of t was ≡ true → is_row_of t row ≡ true → has_key t row was ≡ true
     → at (places_from 0 (shape t).key) was ++ at (places_from (shape t).key (beyond_key t)) row ≡ row
 updated_row t was row first second agree =

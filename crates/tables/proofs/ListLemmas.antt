@@ -89,7 +89,7 @@ get_mapped f [] k d a h = absurd (omega (arith, h))
 get_mapped f (x ∷ xs) zero d a h = refl
 get_mapped f (x ∷ xs) (suc k) d a h = get_mapped f xs k d a (omega (arith, h))
 
--- elements sorted by one image are also sorted by another whose comparisons have the same results
+-- elements sorted by one image are also sorted by any other whose comparisons have the same results
 pub sorted_mapped : {A B X : Type 0} (f : A → B) (g : A → X) (first : B → B → Ordering) (second : X → X → Ordering) → ((a b : A) → first (f a) (f b) ≡ second (g a) (g b))
     → (xs : List A) → IsSorted first (map f xs) → IsSorted second (map g xs)
 sorted_mapped f g first second alike [] sorted k d low below = absurd (omega (arith, below))

@@ -1,4 +1,4 @@
--- What the queries of a table return.
+-- What the queries on a table return.
 use Rattle.std.proofs.Common.{◌≡◌, ℕ, zero, suc, ◌+◌, ◌<◌, ◌≤◌, List, [], ◌∷◌, ◌++◌, map, filter, drop, length, Bool, true, Ok, Err, Result, IfOk, refl, sym, ap, subst, ◌∙◌, arith}
 use Rattle.std.specs.List.{list_all}
 use Rattle.std.specs.List.Sorted.{IsPermutation, IsSorted}
@@ -29,7 +29,7 @@ use Rattle.tables.proofs.ReadLemmas.{rests_at}
 use Rattle.tables.proofs.SelectLemmas.{reads_rows, shows_columns, ordered_terms, ordered_keys, columns_from, ordered_from}
 use Rattle.tables.proofs.Queries.{Reads, scans, selects_rowids}
 
--- a schema that begins with all tables begins with those up to any one
+-- a schema that begins with all tables begins with those up to any one of them
 pub begins_to : (t : Table) (s : Schema) → IsOfficeSchema s → BeginsTo t s
 begins_to Office s h =
     record { rest = map definition (drop (1 + place_of Office) all_tables) ++ h.rest; others = map key_index (drop (1 + place_of Office) all_tables) ++ h.others; views = h.views; is = h.is }
@@ -39,7 +39,7 @@ pub key_within : (t : Table) → (shape t).key ≤ length (columns_of t)
 key_within Office = omega arith
 key_within t = omega arith
 
--- a comparison of keys depends only on the first columns
+-- comparing keys depends only on the first columns
 same_keys : (k n : ℕ) (a b x y : Row) → ((j : ℕ) → j < k + n → column a j ≡ column x j) → ((j : ℕ) → j < k + n → column b j ≡ column y j)
     → key_cmp k (ascending_keys n) a b ≡ key_cmp k (ascending_keys n) x y
 same_keys k zero a b x y first second = refl
@@ -51,7 +51,7 @@ keys_shown : (m n : ℕ) → m ≤ n → (a b : Row) → keys_cmp m (at (places_
 keys_shown m n low a b = same_keys 0 m (at (places_from 0 m) a) (at (places_from 0 m) b) (at (places_from 0 n) a) (at (places_from 0 n) b)
     (λ j h. column_shown m j a (omega (arith, h)) ∙ sym (column_shown n j a (omega (arith, h, low)))) (λ j h. column_shown m j b (omega (arith, h)) ∙ sym (column_shown n j b (omega (arith, h, low))))
 
--- rows restricted to their columns are in the same order
+-- restricting rows to their columns doesn't change their order
 pub order_shown : (t : Table) (a b : Row) → row_cmp t (at (column_places t) a) (at (column_places t) b) ≡ row_cmp t a b
 order_shown t a b =
     let within = key_within t in
@@ -123,7 +123,7 @@ pub if_scanned : {X F : Type 0} (t : Table) (db : Database) → BeginsTo t db.sc
 if_scanned t db begins old new rows (Ok x) rests shown = scanned t db begins old new (rows x) rests shown
 if_scanned t db begins old new rows (Err e) rests shown = tt
 
--- the same rows in key order are a listing of the table
+-- the same rows, in key order, form a listing of the table
 pub in_order_listed : (t : Table) (db : Database) (rows sorted : List Row) → IsPermutation (map (at (column_places t)) (tuples t db.trees)) rows → IsPermutation rows sorted
     → IsSorted (row_cmp t) sorted → Lists t (begins_with []) db sorted
 in_order_listed t db rows sorted scan same up = record {

@@ -37,11 +37,11 @@ use Rattle.tables.proofs.ListLemmas.{mapped_has, front_has}
 use Rattle.tables.proofs.TableLemmas.{same_place, place_below}
 use Rattle.tables.proofs.WentLemmas.{went, same_value}
 
--- the schema with only the tables before this one
+-- the schema with only the tables before the given one
 abbrev before : Table → Schema
 before t = schema_from (place_of t) [] [] []
 
--- the conditions on the CREATE TABLE of a table
+-- the conditions on a table's CREATE TABLE
 record MakesTable (t : Table) : Type 0 where
   is : command_of (understood (before t) (create_text t)) ≡ CreateTable
   plain : IsPlain (understood (before t) (create_text t))
@@ -56,7 +56,7 @@ unfolding understood everything create_text
 makes_table Office = record { is = refl; plain = (refl, refl); whole = refl; defined = refl; uncounted = refl; next = refl; tree = refl }
 makes_table t = record { is = refl; plain = (refl, refl); whole = refl; defined = refl; uncounted = refl; next = refl; tree = refl }
 
--- ---- one more table
+-- ---- creating the next table
 
 taken_has : {X : Type 0} (xs : List X) (n k : ℕ) (x : X) → k < n → slice_get xs k ≡ Some x → Has (take n xs) x
 taken_has [] n k x low at = absurd cc
@@ -81,7 +81,7 @@ empty_table t trees empty = record {
 kept_table : (t : Table) (rows : List Row) (old new : Trees) → new (tree_of t) ≡ old (tree_of t) → HoldsTable t rows old → HoldsTable t rows new
 kept_table t rows old new same h = record { same = subst (λ l. IsPermutation rows (map (drop 1) l)) (sym same) h.same; keyed = λ changes. subst Keyed (sym same) (h.keyed changes); typed = h.typed }
 
--- the tables before this one keep their rows, and this one is empty
+-- the tables before the given one keep their rows, and that one is empty
 one_more : (t : Table) (c : Contents) → c t ≡ [] → (old new : Trees) → ((u : Table) → place_of u < place_of t → new (tree_of u) ≡ old (tree_of u)) → new (tree_of t) ≡ []
     → HoldsFirst (place_of t) c old → HoldsFirst (place_of t + 1) c new
 one_more t c none old new others empty holds u low = elim (cases_lt (place_of u) (place_of t)) [
@@ -157,7 +157,7 @@ split xs (suc k) zero low = absurd (omega (arith, low))
 split [] (suc k) (suc n) low = refl
 split (x ∷ xs) (suc k) (suc n) low = ap (λ l. x ∷ l) (split xs k n (omega (arith, low)))
 
--- the first tables begin with any smaller number of them
+-- the first `n` tables begin with the first `k`, for any `k` up to `n`
 parted : (k n : ℕ) → k ≤ n → schema_from n [] [] [] ≡ schema_from k (map definition (drop k (take n all_tables)) ++ []) (map key_index (drop k (take n all_tables)) ++ []) []
 parted k n low = go (take n all_tables) (take k all_tables) (drop k (take n all_tables)) (split all_tables k n low)
   where
@@ -184,7 +184,7 @@ pub first_leaves : (n : ℕ) (c : Contents) (s : State) → ((trees : Trees) →
     → s.may_leave trees → StoresFirst n c trees
 first_leaves n c s settled rests trees may = record { db = s.now; first = rests.first; same = settled trees rests.is_open may ∙ ap (λ (d : Database). d.trees) (sym rests.settled) }
 
--- What a stop left is identified after reopening: the trees determine the schema.
+-- What a stop has left is identified after reopening: the trees determine the schema.
 pub first_found : (n : ℕ) (c : Contents) (db : Database) → IsDatabase db → StoresFirst n c db.trees → HasFirstTables n c db
 unfolding HasFirstTables
 first_found n c db sound stores =
@@ -192,6 +192,6 @@ first_found n c db sound stores =
     let lists : Lists (db.trees catalog_tree) stores.db.schema = subst (λ (t : Trees). Lists (t catalog_tree) stores.db.schema) (sym stores.same) was.sound.lists in
     record { schema = lists_once (db.trees catalog_tree) db.schema stores.db.schema sound.lists lists ∙ was.schema; sound = sound; holds = subst (HoldsFirst n c) (sym stores.same) was.holds }
 
--- a transaction begins at the state of its connection
+-- a transaction begins in the state of its connection
 pub begun_first : {S : Type 0} (g : Ghosts S) (n : ℕ) (c : Contents) (old : Held S) → RestsFirst n c (state g old) → SeesMade n c (state g (record old { in_transaction = true }))
 begun_first g n c old rests = record { inside = refl; first = rests.first }

@@ -28,7 +28,7 @@ use Rattle.tables.proofs.ListLemmas.{get_any}
 
 -- ---- SQL's = on keys
 
--- the truth value that is decoded from its number
+-- the truth value decoded from its number
 told : (b : Bool) → is_true (from_truth (Some b)) ≡ b
 told true = refl
 told false = refl
@@ -118,7 +118,7 @@ key_of_three_numbers a b c k m n =
     ap (λ x. x && (equal Binary (Int (pos m)) (Int (pos b)) && (equal Binary (Int (pos n)) (Int (pos c)) && true))) (equal-Int (pos k) (pos a) ∙ ap is_eq (numbers k a) ∙ turned nat_cmp_total k a)
     ∙ ap (λ x. is_eq (nat_cmp a k) && x) (key_of_two_numbers b c m n) ∙ then_equal (nat_cmp a k) (ordering_then (nat_cmp b m) (nat_cmp c n))
 
--- the same for a single number
+-- the same statement for a single number
 pub same_number : (a k : ℕ) → (equal Binary (Int (pos k)) (Int (pos a)) && true) ≡ (k == a)
 same_number a k = and-true _ ∙ equal-number k a
 
@@ -146,7 +146,7 @@ row_total t = key_cmp_total (ascending_keys (shape t).key) 0
 pub rise_all : (t : Table) (rows : List Row) → ((k : ℕ) → k + 1 < length rows → row_cmp t (get_or rows k []) (get_or rows (k + 1) []) ≡ Less) → IsStrictlySortedBy (row_cmp t) rows
 rise_all t rows each = sorted_from_all_adjacent (row_total t) rows [] each
 
--- a row whose key isn't above that of the row before
+-- a row whose key isn't above that of the preceding row
 pub fails_there : (t : Table) (rows : List Row) (i : ℕ) (a b : Row) → 1 ≤ i → i < length rows → a ≡ get_or rows (i - 1) a → b ≡ get_or rows i b → row_cmp t a b ≢ Less → FailsToRise t rows
 fails_there t rows i a b above below first second not_less =
     let next : (i - 1) + 1 ≡ i = omega (arith, above) in

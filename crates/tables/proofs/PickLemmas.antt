@@ -88,7 +88,7 @@ module _ (p : Row → Bool) (show : Row → Row) (same_rowid : (r : Row) → row
       ]
     ]
 
-    -- without the returned rows, those that don't pass the test remain
+    -- once the returned rows are removed, those that don't pass the test remain
     pub picked_left : without_all rows (ids_of found) ≡ filter (λ r. not (p r)) rows
     picked_left = without_named (ids_of found) rows ∙ filtered_same _ _ rows (λ r here. ap not (picks r here))
 

@@ -1,4 +1,4 @@
--- What a query for some rows finds.
+-- What a query finds.
 use Rattle.std.proofs.Common.{◌≡◌, ◌⊎◌, inl, inr, List, [], ◌∷◌, map, filter, length, Option, Some, None, IfSome, slice_index_or, option_map, Bool, refl, sym, ap, subst, ◌∙◌, arith}
 use Rattle.std.specs.Option.{option_to_list}
 use Rattle.std.specs.List.{AllByRecursion}
@@ -20,11 +20,11 @@ use Rattle.tables.proofs.ListLemmas.{mapped_same, mapped_itself, permuted_has, h
 use Rattle.tables.proofs.ColumnPlaceLemmas.{typed_at}
 use Rattle.tables.proofs.ListingLemmas.{office_of}
 
--- a row of an office has all columns and no more
+-- a row of an office has exactly the table's columns
 pub itself : (t : Table) (c : Contents) (s : State) → Rests c s → (r : Row) → Has (c t) r → at (column_places t) r ≡ r
 itself t c s rests r there = typed_at (columns_of t) r (test_has (is_row_of t) (c t) r ((office_of c s rests).holds t).typed there)
 
--- the rows of the entries are the rows that were found
+-- the rows of the entries are the rows found
 pub found_as : (t : Table) (test : Row → Bool) (c : Contents) (rows shown : List Row) → Finds t test c rows → map (at (column_places t)) rows ≡ shown → (s : State) → Rests c s → Finds t test c shown
 found_as t test c rows shown finds is s rests =
     let whole : map (at (column_places t)) rows ≡ rows =
@@ -41,9 +41,9 @@ found_cause t test c IsRow rows f finds all (inr wrong) =
     let there = has_filtered test (c t) _ (permuted_has _ rows (filter test (c t)) (IsPermutation-sym _ _ finds.same) (has_at rows k.0 [] k.1)) in
     absurd (k.2 (all_has IsRow (c t) _ all there.0))
 
--- ---- the row with a key
+-- ---- the row with a given key
 
--- the only row of a query doesn't represent an entry
+-- a query's only row doesn't represent an entry
 pub one_other : (IsRow : Row → Type 0) (o : Option Row) (rows : List Row) → rows ≡ option_to_list o → HasInvalidRow IsRow rows → ¬ IfSome o IsRow
 one_other IsRow None rows is wrong fits = let low = wrong.1 in let none = ap length is in omega (arith, low, none)
 one_other IsRow (Some r) rows is wrong fits =

@@ -1,4 +1,4 @@
--- What each query is parsed as, under a schema that begins with the tables up to the query's own.
+-- How each query is parsed, under a schema that begins with the tables up to the query's own.
 use Rattle.std.proofs.Common.{◌≡◌, ℕ, suc, ◌+◌, ◌≤◌, List, [], ◌∷◌, codes, length, true, refl, sym, arith, true≢false}
 use Rattle.sqlite.specs.Collation.TheVariants.{Binary}
 use Rattle.sqlite_sql.specs.declared.ops.BinaryOp.TheVariants.{Compare}

@@ -1,4 +1,4 @@
--- The state in which a query leaves the connection, under any schema.
+-- The state a query leaves the connection in, under any schema.
 use Rattle.std.proofs.Common.{◌≡◌, ◌⊎◌, inl, inr, ℕ, List, Option, None, Some, Ok, Err, Result, OnOk, IfOk, IfErr, IsTrue, refl, sym, subst, ◌∙◌, arith}
 use Rattle.sqlite.specs.declared.error.Error.{Error}
 use Rattle.sqlite.specs.Order.{Row}
@@ -36,7 +36,7 @@ pub never_commits : (sql : List ℕ) (params : Row) (s : State) (trees : Trees) 
 unfolding CommitsShowing
 never_commits sql params s trees query h = absurd (let some = rw (query s.now.schema h.0 h.1.is) at h.2 in cc)
 
--- a step that leaves a connection as it was, or rolls back, and commits nothing, only reads
+-- a step that leaves a connection as it was or rolls back, and that commits nothing, only reads
 pub reads_left : (Commits : Trees → Type 0) (old new : State) → ((trees : Trees) → Commits trees → ⊥) → (HasCleanDisk new → IsUnchanged old new ⊎ IsRolledBack old new)
     → Survives old new Commits → OnlyReads old new
 reads_left Commits old new never which survives = record {

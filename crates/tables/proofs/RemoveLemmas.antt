@@ -1,4 +1,4 @@
--- A DELETE of the rows with a key.
+-- A DELETE of the rows with a given key.
 use Rattle.std.proofs.Common.{◌≡◌, ◌≢◌, ℕ, List, [], ◌∷◌, map, drop, filter, slice_get, Bool, not, Some, None, Ok, refl, sym, ap, subst, ◌∙◌}
 use Rattle.std.specs.List.{AllByRecursion}
 use Rattle.std.specs.List.Sorted.{IsPermutation}
@@ -31,7 +31,7 @@ use Rattle.tables.proofs.WentLemmas.{write_went, delete_went}
 use Rattle.tables.proofs.PickLemmas.{picked_left, keyed_filtered}
 use Rattle.tables.proofs.SelectLemmas.{query, selects, tests_from, tests_agree}
 
--- the rows with a key are removed from a table
+-- the rows with the given key are removed from a table
 pub record Removes (schema : Schema) (t : Table) (key : Row) (old new : Database) : Type 0 where
   pub changes : Changes schema (tree_of t) old new
   pub rows : tuples t new.trees ≡ filter (λ r. not (has_key t key r)) (tuples t old.trees)
@@ -44,7 +44,7 @@ module _ (schema : Schema) (t : Table) (alone : (olds news : List Row) → works
     abbrev program : Program
     program = record { lets = []; body = query (tree_of t) (tests_from 0 (shape t).key) (col 1 0 ∷ []) [] }
 
-    -- without the rows that the query selected, those that don't have the key remain
+    -- once the rows that the query selected are removed, those that don't have the key remain
     finish : (old new : Database) → IsDatabase new → Keyed (old.trees (tree_of t)) → (trees : Trees) → new ≡ record { schema = schema; trees = trees } → (found : List Row)
         → Answers (record { schema = schema; trees = old.trees }) program params found
         → Edited schema Enforced old.trees (edit_of old.trees (definition t) (ids_of found) Given 0 []) (Ok trees) → Removes schema t params old new

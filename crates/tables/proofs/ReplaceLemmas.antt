@@ -1,4 +1,4 @@
--- An UPDATE of the row with a key.
+-- An UPDATE of the row with a given key.
 use Rattle.std.proofs.Common.{◌≡◌, ◌≢◌, ℕ, List, [], ◌∷◌, ◌++◌, map, drop, filter, slice_get, Bool, true, false, not, cond, Some, None, Ok, refl, sym, ap, subst, ◌∙◌}
 use Rattle.std.specs.List.{list_all, AllByRecursion}
 use Rattle.std.specs.List.Sorted.{IsPermutation}
@@ -54,7 +54,7 @@ numbered_given : (rows news : List Row) → numbered Given rows news ≡ news
 numbered_given rows [] = refl
 numbered_given rows (n ∷ news) = ap (λ l. n ∷ l) (numbered_given (put_row n rows) news)
 
--- the elements that pass a test, each changed, and those that don't
+-- the elements that pass a test, each changed, and those that don't pass
 parted : {X : Type 0} (p : X → Bool) (f : X → X) (xs : List X) → IsPermutation (map f (filter p xs) ++ filter (λ x. not (p x)) xs) (map (λ x. cond (p x) (f x) x) xs)
 parted p f [] = IsPermutation-refl []
 parted p f (x ∷ xs) = go (p x) (parted p f xs)

@@ -30,7 +30,7 @@ no_integer (Real x) none = refl
 no_integer (Text t) none = refl
 no_integer (Blob b) none = refl
 
--- ---- one more rowid
+-- ---- the next rowid
 
 -- the rowid of the row read at an index
 pub rowid_there : (rows : List Row) (k : ℕ) (r : Row) (n : ℤ) → k < length rows → r ≡ get_or rows k r → rowid r ≡ Int n → rowid (get_or rows k []) ≡ Int n
@@ -78,7 +78,7 @@ once_each (r ∷ rows) up a b (inl h) (inr k) e = absurd (above r rows up b k (s
 once_each (r ∷ rows) up a b (inr h) (inl k) e = absurd (above r rows up a h (e ∙ ap rowid k))
 once_each (r ∷ rows) up a b (inr h) (inr k) e = once_each rows (sorted_tail value_cmp (rowid r) (map rowid rows) up) a b h k e
 
--- the index of a rowid in the table's order
+-- the index of a rowid in table order
 shown_at : (ordered rows : List Row) → rows ≡ map alone ordered → (k : ℕ) → k < length rows → (k < length ordered) × (rowid (get_or rows k []) ≡ rowid (get_or ordered k []))
 shown_at ordered rows shown k low =
     let below : k < length ordered = let n = ap length shown ∙ mapped_length alone ordered in omega (arith, low, n) in

@@ -28,9 +28,9 @@ use Rattle.tables.proofs.QueriedRowsLemmas.{itself}
 use Rattle.tables.proofs.CauseLemmas.{if_fails, begun, either_way, places_length}
 use Rattle.tables.proofs.RunQueries.{selects_rowid, accepts_rowid, between_tests, selects_between, accepts_between}
 
--- ---- the rowid of the row with a key
+-- ---- the rowid of the row with a given key
 
--- the rows returned are rowids of rows with the key
+-- the rows returned are rowids of rows with the given key
 pub rowid_shown : (t : Table) (key : Row) → length key ≡ (shape t).key → (db : Database) → BeginsTo t db.schema → (old new : State) (rows : List Row)
     → RestsAt db old → Shown (select_rowid_text t) key old new rows
     → IsPermutation (map alone (filter (λ r. begins_with key (drop 1 r)) (db.trees (tree_of t)))) rows
@@ -50,7 +50,7 @@ pub if_rowid_shown : {X F : Type 0} (t : Table) (key : Row) → length key ≡ (
 if_rowid_shown t key many db begins old new rows (Ok x) rests shown = rowid_shown t key many db begins old new (rows x) rests shown
 if_rowid_shown t key many db begins old new rows (Err e) rests shown = tt
 
--- the rowid in a returned row is that of a row with the key
+-- the rowid in a returned row is that of a row with the given key
 pub stands_at : (t : Table) (key : Row) (db : Database) (rows : List Row) (row : Row) (id : ℤ) → IsPermutation (map alone (filter (λ r. begins_with key (drop 1 r)) (db.trees (tree_of t)))) rows
     → Has rows row → rowid row ≡ Int id → StandsAt t key db.trees id
 stands_at t key db rows row id same there is =
@@ -122,7 +122,7 @@ module _ (t : Table) (low high : ℤ) (c : Contents) (s : State) (rests : Rests 
       subst (Has (c t)) (sym it.2) (permuted_has (drop 1 it.0) (tuples t s.now.trees) (c t) (IsPermutation-sym _ _ ((office_of c s rests).holds t).same)
       (mapped_has (drop 1) (s.now.trees (tree_of t)) it.0 both.0))
 
-  -- a row of a run has all columns and no more
+  -- a row of a run has exactly the table's columns
   run_itself : map (at (column_places t)) (run_of t low high s.now.trees) ≡ run_of t low high s.now.trees
   run_itself = mapped_same (at (column_places t)) (λ r. r) (run_of t low high s.now.trees) (λ r h. itself t c s rests r (in_table r h)) ∙ mapped_itself _
 
@@ -139,10 +139,10 @@ module _ (t : Table) (low high : ℤ) (c : Contents) (s : State) (rests : Rests 
   pub run_read : (found : List Row) → map (at (column_places t)) rows ≡ found → IsPermutation (run_of t low high s.now.trees) found
   run_read found is = subst (IsPermutation (run_of t low high s.now.trees)) (sym shown_themselves ∙ is) same_run
 
-  -- each of these rows is one of the table's
+  -- each row of the run is one of the table's
   pub all_in_table : (found : List Row) → map (at (column_places t)) rows ≡ found → AllByRecursion (Has (c t)) found
   all_in_table found is = subst (AllByRecursion (Has (c t))) (sym shown_themselves ∙ is) (all_from (Has (c t)) rows shown_in_table)
 
-  -- if all rows of the table represent entries, so do these
+  -- if all rows of the table represent entries, so do the rows of the run
   pub none_other : (IsRow : Row → Type 0) → AllByRecursion IsRow (c t) → ¬ HasInvalidRow IsRow rows
   none_other IsRow all wrong = wrong.2 (all_has IsRow (c t) _ all (shown_in_table _ (has_at rows wrong.0 [] wrong.1)))

@@ -1,4 +1,4 @@
--- What the queries by rowid are parsed as, under a schema that begins with the tables up to the query's own; and why they are accepted.
+-- How the queries by rowid are parsed, under a schema that begins with the tables up to the query's own; and why they are accepted.
 use Rattle.std.proofs.Common.{◌≡◌, ℤ, ◌+◌, List, [], ◌∷◌, codes, length, true, refl, arith}
 use Rattle.sqlite.specs.declared.types.Value.TheVariants.{Int}
 use Rattle.sqlite.specs.Collation.TheVariants.{Binary}
@@ -22,9 +22,9 @@ use Rattle.tables.proofs.QueryLemmas.{query_text}
 use Rattle.tables.proofs.SelectLemmas.{IsSelect, query as one_select, columns_from, tests_from}
 use Rattle.tables.proofs.CauseLemmas.{number_in, text_in, bytes_in, behind}
 
--- ---- the rowid of the row with a key
+-- ---- the rowid of the row with a given key
 
--- the conditions on a SELECT of the rowid of the row with a key
+-- the conditions on a SELECT of the rowid of the row with a given key
 pub record ReadsRowid (t : Table) : Type 0 where
   pub query : is_query_text (first (select_rowid_text t)) ≡ true
   pub select : (rest : List Definition) (others : List Index) (views : List View)
@@ -38,7 +38,7 @@ selects_rowid t = record { query = refl; select = λ rest others views. record {
 pub rowid_query : (t : Table) → IsQuery (select_rowid_text t)
 rowid_query t = query_text (select_rowid_text t) (selects_rowid t).query
 
--- the query is accepted if the key's values are of the columns' kinds
+-- the query is accepted if the key's values have the columns' kinds
 pub accepts_rowid : (t : Table) (key : Row) → begins_key t key ≡ true → length key ≡ (shape t).key → (rest : List Definition) (others : List Index) (views : List View)
     → accepts_program (schema_from (1 + place_of t) rest others views) [] (one_select (tree_of t) (tests_from 0 (shape t).key) (col 1 0 ∷ []) []) key ≡ true
 accepts_rowid Office [] kinds many rest others views = absurd (omega (arith, many))
@@ -108,7 +108,7 @@ accepts_rowid Third (a ∷ b ∷ more) kinds many rest others views = absurd (om
 abbrev pub between_tests : List Term
 between_tests = op2 (Compare Ge Binary) (col 1 0) (col 0 0) ∷ op2 (Compare Le Binary) (col 1 0) (col 0 1) ∷ []
 
--- the conditions on a SELECT of these rows
+-- the conditions on a SELECT of those rows
 pub record ReadsBetween (t : Table) : Type 0 where
   pub query : is_query_text (first (select_between_text t)) ≡ true
   pub select : (rest : List Definition) (others : List Index) (views : List View)
@@ -122,7 +122,7 @@ selects_between t = record { query = refl; select = λ rest others views. record
 pub between_query : (t : Table) → IsQuery (select_between_text t)
 between_query t = query_text (select_between_text t) (selects_between t).query
 
--- this query is accepted
+-- the query for those rows is accepted
 pub accepts_between : (t : Table) (low high : ℤ) (rest : List Definition) (others : List Index) (views : List View)
     → accepts_program (schema_from (1 + place_of t) rest others views) [] (one_select (tree_of t) between_tests (columns_from 0 (length (columns_of t))) []) (Int low ∷ Int high ∷ []) ≡ true
 accepts_between Office low high rest others views = refl

@@ -25,7 +25,7 @@ same_back c d same t = IsPermutation-sym (c t) (d t) (same t)
 pub same_then : (a b c : Contents) → SameContents a b → SameContents b c → SameContents a c
 same_then a b c first second t = IsPermutation-trans (a t) (b t) (c t) (first t) (second t)
 
--- a change of one table that preserves permutations takes equal contents to equal contents
+-- a change to one table that preserves permutations maps equal contents to equal contents
 pub same_changed : (t : Table) (f : List Row → List Row) → ((xs ys : List Row) → IsPermutation xs ys → IsPermutation (f xs) (f ys)) → (c d : Contents) → SameContents c d
     → SameContents (changed t f c) (changed t f d)
 same_changed t f each c d same u = go (place_of u == place_of t)
@@ -36,7 +36,7 @@ same_changed t f each c d same u = go (place_of u == place_of t)
 
 -- ---- one table changed, the others unchanged
 
--- one table has other rows; no table before it in the list is the same table
+-- one table has different rows; no table before it in the list is the same table
 pub filled_changed : (front : List (Table × List Row)) (t : Table) (rows news : List Row) (back : List (Table × List Row)) (f : List Row → List Row)
     → list_all (λ (x : Table × List Row). not (place_of x.0 == place_of t)) front ≡ true
     → IsPermutation (f rows) news → SameContents (changed t f (filled (front ++ (t, rows) ∷ back))) (filled (front ++ (t, news) ∷ back))
@@ -52,7 +52,7 @@ filled_changed (one ∷ front) t rows news back f apart same u = elim (which_tab
   | inr past ↦ rw past.0 (filled_changed front t rows news back f (and_parts _ _ apart).1 same u)
 ]
 
--- ---- what is true of contents is true of the same contents in another order
+-- ---- what is true of contents is true of the same contents in a different order
 
 holds_table_same : (t : Table) (xs ys : List Row) (trees : Trees) → IsPermutation xs ys → HoldsTable t xs trees → HoldsTable t ys trees
 holds_table_same t xs ys trees same h = record {
@@ -106,7 +106,7 @@ pub office_holds : (c : Contents) (db : Database) → IsOffice c db → Holds c 
 unfolding IsOffice
 office_holds c db office = office.holds
 
--- ---- one more row
+-- ---- adding a row
 
 pub added_there : (t : Table) (row : Row) (c : Contents) → added t row c t ≡ row ∷ c t
 unfolding added
@@ -120,7 +120,7 @@ pub same_added : (t : Table) (row : Row) (c d : Contents) → SameContents c d �
 unfolding added
 same_added t row c d same = same_changed t (λ rows. row ∷ rows) (λ xs ys h. IsPermutation-cons row xs ys h) c d same
 
--- ---- many more rows
+-- ---- adding several rows
 
 pub same_added_all : (t : Table) (news : List Row) (c d : Contents) → SameContents c d → SameContents (added_all t news c) (added_all t news d)
 unfolding added_all

@@ -34,7 +34,7 @@ drop_none : {X : Type 0} (xs : List X) → drop 0 xs ≡ xs
 drop_none [] = refl
 drop_none (x ∷ xs) = refl
 
--- the query as `sqlite` parses it from the text
+-- the query that `sqlite` parses from a text
 abbrev pub query : ℕ → List Term → List Term → List (Term × Key) → Query
 query tree tests project order = record {
   from = inner tree end;
@@ -127,12 +127,12 @@ module _ (schema : Schema) (sql : List ℕ) (tree : ℕ) (tests project : List T
 
 -- ---- columns of a row that begins with its rowid
 
--- a column of the row is the column before it of the row without its rowid
+-- each column of the row is the preceding column of the row without its rowid
 pub later : (k : ℕ) (r : Row) → column r (suc k) ≡ column (drop 1 r) k
 later k [] = refl
 later k (x ∷ xs) = refl
 
--- this many columns, starting at an index
+-- the given number of columns, starting at an index
 abbrev pub columns_from : ℕ → ℕ → List Term
 columns_from k n = map (col 1) (places_from (suc k) n)
 
@@ -140,7 +140,7 @@ pub shows_columns : (k n : ℕ) (params r : Row) → eval_all (columns_from k n)
 shows_columns k zero params r = refl
 shows_columns k (suc n) params r = ap (λ v. v ∷ eval_all (columns_from (suc k) n) (params ∷ r ∷ [])) (later k r) ∙ ap (λ l. column (drop 1 r) k ∷ l) (shows_columns (suc k) n params r)
 
--- these columns, each in ascending order
+-- those columns, each in ascending order
 abbrev pub ordered_from : ℕ → ℕ → List (Term × Key)
 ordered_from k n = map (λ p. (col 1 p, ascending Binary)) (places_from (suc k) n)
 
@@ -151,7 +151,7 @@ pub ordered_keys : (k n : ℕ) → map (λ t. t.1) (ordered_from k n) ≡ ascend
 ordered_keys k zero = refl
 ordered_keys k (suc n) = ap (λ l. ascending Binary ∷ l) (ordered_keys (suc k) n)
 
--- these columns equal the parameters
+-- those columns equal the parameters
 abbrev pub tests_from : ℕ → ℕ → List Term
 tests_from k n = map (λ p. op2 (Compare Eq Binary) (col 1 (suc p)) (col 0 p)) (places_from k n)
 

@@ -55,7 +55,7 @@ rests_committed c inside new sees shows = record {
 pub stores_seen : (c : Contents) (s : State) (trees : Trees) → Sees c s → trees ≡ s.now.trees → Stores c trees
 stores_seen c s trees sees same = stores_from c s.now trees sees.office same
 
--- a stop in a transaction that commits what it saw leaves that, or what could have been left before
+-- a stop in a transaction that commits what it saw leaves either that or what could have been left before
 pub survives_storing : (c : Contents) (old inside new : State) → Survives old new (λ trees. trees ≡ inside.now.trees) → (HasCleanDisk new → Sees c inside) → Survives old new (Stores c)
 survives_storing c old inside new s sees = record {
   clean = s.clean;
@@ -84,7 +84,7 @@ survives_commit c start inside new first second sees =
 
 -- ---- after a stop
 
--- What a stop left is identified after reopening: the trees determine the schema.
+-- What a stop has left is identified after reopening: the trees determine the schema.
 pub stores_found : (c : Contents) (db : Database) → IsDatabase db → Stores c db.trees → IsOffice c db
 unfolding IsOffice
 stores_found c db sound stores =

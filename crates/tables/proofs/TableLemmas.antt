@@ -24,7 +24,7 @@ pub place_below : (t : Table) → place_of t < 11
 place_below Office = omega arith
 place_below t = omega arith
 
--- a table is this one, or has a different position and a different tree
+-- a table is the given one, or has a different position and a different tree
 pub which_table : (t u : Table) → ((place_of u == place_of t) ≡ true) × (u ≡ t) ⊎ ((place_of u == place_of t) ≡ false) × (tree_of u ≢ tree_of t)
 which_table t u = elim (eqb_tells (place_of u) (place_of t)) [
   | inl same ↦ inl (same.0, same_place u t same.1)

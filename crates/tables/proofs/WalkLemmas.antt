@@ -36,9 +36,9 @@ use Rattle.tables.proofs.QueriedRowsLemmas.{found_as}
 use Rattle.tables.proofs.FaultLemmas.{query_cause}
 use Rattle.tables.proofs.CauseLemmas.{fails_later, key_fails}
 
--- ---- the state in which a step leaves the connection
+-- ---- the state a step leaves the connection in
 
--- one more row, no more rows, or an error
+-- another row, no more rows, or an error
 pub step_reads : {X : Type 0} (old new : State) (r : Result X Error) → (HasCleanDisk new → OnOk r (IsUnchanged old new))
     → (HasCleanDisk new → IfErr r (λ e. Fails old new ⊥ e ⊎ IsUnchanged old new)) → Survives old new (λ _. ⊥) → OnlyReads old new
 step_reads {X} old new r same kept survives = reads_left (λ _. ⊥) old new (λ trees none. none) (λ clean. go r (same clean) (kept clean)) survives
@@ -92,7 +92,7 @@ module _ {S : Type 0} (g : Ghosts S) (t : Table) (key : Row) (low : length key �
 
 -- ---- a walk from its start to a row
 
--- these rows were returned, and their entries consumed
+-- the given rows have been returned, and their entries consumed
 pub record HasWalked {S V X : Type 0} (g : Ghosts S) (t : Table) (row_of : X → Row) (HasVisited : V → List X → Type 0) (start now : Held S) (was is : V) : Type 0 where
   pub given : List Row
   pub found : List X
@@ -184,7 +184,7 @@ module _ {S : Type 0} (g : Ghosts S) (t : Table) (n : ℕ) (key : Row) (many : l
     pub walk_reads : OnlyReads (state g old) (state g last)
     walk_reads = only_reads_then (state g old) (state g begun) (state g last) begin rest
 
-    -- what is proved for any walk from its first row is true of this key and these contents
+    -- what is proved for any walk from its first row is true for the given key and contents
     pub walk_tells : (P : Row → Contents → Type 0) (c : Contents) → HasCleanDisk (state g last) → RestsIfOpen c (state g old)
         → ((k : Row) → length k ≤ (shape t).key → HasGiven g (select_text t (length k)) k begun [] → (d : Contents) → RestsIfOpen d (state g begun) → P k d) → P key c
     walk_tells P c clean rests told =

@@ -21,7 +21,7 @@ went (inr on) = on
 pub same_value : {B E : Type 0} {a b : B} → ◌≡◌ {A = Result B E} (Ok a) (Ok b) → a ≡ b
 same_value e = cc
 
--- if two parts in sequence returned a value, the first returned one too, and the second computed the result from it
+-- if two parts in sequence returned a value, the first part returned one, and the second computed the result from it
 pub then_went : {A B : Type 0} (First : Part A) (Next : A → Part B) (b : B) → Then First Next (Ok b) → (a : A) × First (Ok a) × Next a (Ok b)
 then_went First Next b h = went h
 

@@ -1,4 +1,4 @@
--- Copying the rows of a query's answer, one at a time.
+-- Copying the rows that a query returns, one at a time.
 use Rattle.std.specs.Prelude.{◌≡◌, ◌⊎◌, ℕ, List, [], ◌∷◌, ◌++◌, Bool, true, false, Some, None, IsTrue}
 use Rattle.sqlite.specs.declared.error.Error.{Error}
 use Rattle.sqlite.specs.Order.{Row}
@@ -12,7 +12,7 @@ use Rattle.tables.specs.Faults.{fault_of, TellsQuery}
 use Rattle.tables.specs.Reading.{OnlyReads}
 
 module _ {S : Type 0} (g : Ghosts S) where
-  -- one more row was appended, or there was none
+  -- another row was appended, or there was none
   abbrev pub Copies : Held S → Held S → List Row → List Row → Bool → Type 0
   Copies old new was is true = (row : Row) × Advances g old new (Some row) × (is ≡ was ++ row ∷ [])
   Copies old new was is false = Advances g old new None × (is ≡ was)
@@ -21,12 +21,12 @@ module _ {S : Type 0} (g : Ghosts S) where
   abbrev pub FailsToCopy : Held S → Held S → Fault → Type 0
   FailsToCopy old new f = ((e : Error) × (f ≡ fault_of e) × FailsToAdvance g old new e) ⊎ (f ≡ Memory)
 
-  -- after a read that left the connection open, these rows were returned as the answer
+  -- after a read that left the connection open, the query returned these rows
   abbrev pub IsShownAfter : List ℕ → Row → Held S → Held S → List Row → Type 0
   IsShownAfter sql params old new rows =
       (mid : Held S) × OnlyReads (state g old) (state g mid) × HasCleanDisk (state g mid) × IsTrue (state g mid).is_open × Shown sql params (state g mid) (state g new) rows
 
-  -- after a read, an allocation or the query failed
+  -- an allocation or the query failed after a read
   abbrev pub FailsAfter : List ℕ → Row → Held S → Held S → Fault → Type 0
   FailsAfter sql params old new f =
       (f ≡ Memory) ⊎ ((mid : Held S) × OnlyReads (state g old) (state g mid) × OnlyReads (state g mid) (state g new) × TellsQuery sql params (state g mid) (state g new) f)

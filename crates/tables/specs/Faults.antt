@@ -28,20 +28,20 @@ fault_text WrongDatabase = codes "wrong database"
 fault_text NewerSchema = codes "newer schema"
 fault_text OlderSchema = codes "older schema"
 
--- `Memory` for an allocation that failed, `Store` for any other refusal by the store
+-- `Memory` for a failed allocation, `Store` for any other refusal by the store
 abbrev pub fault_of : Error → Fault
 fault_of (SqliteFailure OutOfMemory) = Memory
 fault_of _ = Store
 
--- `Memory` for an allocation that failed, `Damaged` for a value that isn't what its column should contain
+-- `Memory` for a failed allocation, `Damaged` for a value that isn't what its column should contain
 abbrev pub value_fault : Error → Fault
 value_fault (SqliteFailure OutOfMemory) = Memory
 value_fault _ = Damaged
 
--- the fault is the reason why `sqlite` refused this query
+-- the fault says why `sqlite` refused this query
 abbrev pub TellsQuery : List ℕ → Row → State → State → Fault → Type 0
 TellsQuery sql params old new f = (e : Error) × (f ≡ fault_of e) × (HasCleanDisk new → FailsToQuery sql params old new e)
 
--- the fault is the reason why `sqlite` refused this statement inside a transaction
+-- the fault says why `sqlite` refused this statement inside a transaction
 abbrev pub TellsStatement : List ℕ → Row → State → State → Fault → Type 0
 TellsStatement sql params old new f = (e : Error) × (f ≡ fault_of e) × (HasCleanDisk new → IsTrue old.in_transaction → ExecutesInside 0 sql params old new (Err e))

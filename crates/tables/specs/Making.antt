@@ -7,7 +7,7 @@ use Rattle.tables.specs.declared.table.Table.{Table}
 use Rattle.tables.specs.Schema.{schema_from, no_schema, place_of}
 use Rattle.tables.specs.Contents.{Contents, HoldsTable}
 
--- no rows in any table; opaque, to keep a proof search from computing it
+-- contents without rows in any table; opaque, to keep a proof search from computing it
 unfoldable pub no_contents : Contents
 no_contents t = []
 
@@ -21,7 +21,7 @@ pub record FirstAt (n : ℕ) (c : Contents) (db : Database) : Type 0 where
   pub sound : IsDatabase db
   pub holds : HoldsFirst n c db.trees
 
--- the same; opaque, to keep a proof search from unfolding it
+-- the same condition; opaque, to keep a proof search from unfolding it
 unfoldable pub HasFirstTables : ℕ → Contents → Database → Type 0
 HasFirstTables = FirstAt
 

@@ -9,11 +9,11 @@ use Rattle.tables.specs.declared.presence.TablesPresent.{TablesPresent}
 use Rattle.tables.specs.declared.presence.TablesPresent.TheVariants.{Whole, WithoutThird, WithoutCounts, Other}
 use Rattle.tables.specs.Schema.{shape, all_tables, schema_from, BeginsTo, IsOfficeSchema}
 
--- whether some table has the name of this one, ignoring the case of ASCII letters
+-- whether any table has the given table's name, ignoring the case of ASCII letters
 abbrev pub has_table : Table → Schema → Bool
 has_table t s = list_any (λ d. same_name d.name (shape t).name) s.tables
 
--- whether some table of an office exists
+-- whether any table of an office exists
 abbrev pub has_some_table : Schema → Bool
 has_some_table s = list_any (λ t. has_table t s) all_tables
 
@@ -29,12 +29,12 @@ has_first n s = list_all (λ t. has_table t s) (take n all_tables) && not (list_
 abbrev pub tables_present : Schema → TablesPresent
 tables_present s = if has_every_table s then Whole else if has_first 10 s then WithoutThird else if has_first 8 s then WithoutCounts else Other
 
--- The tables with our names are ours: if an office table exists, it is our first, and if all eleven names exist, the eleven tables come first and in order.
+-- The tables with our names are ours: if an office table exists, it is our first one, and if all eleven names exist, our eleven tables come first, in order.
 pub record IsOurs (s : Schema) : Type 0 where
   pub office : has_table Office s ≡ true → BeginsTo Office s
   pub every : has_every_table s ≡ true → IsOfficeSchema s
 
--- The tables of an older office are ours too, and there are no others: their names show how many of the first tables exist.
+-- The tables of an older office are also ours, and there are no others: their names show how many of the first tables exist.
 pub record IsOlderSchema (s : Schema) : Type 0 where
   pub without_third : tables_present s ≡ WithoutThird → s ≡ schema_from 10 [] [] []
   pub without_counts : tables_present s ≡ WithoutCounts → s ≡ schema_from 8 [] [] []

@@ -1,4 +1,4 @@
--- What a read returns, and the state in which it leaves the store.
+-- What a read returns, and the state it leaves the store in.
 use Rattle.std.specs.Prelude.{◌≡◌, ◌≢◌, ◌⊎◌, ◌<◌, ◌≤◌, ◌+◌, ◌≤ℤ◌, ℕ, ℤ, List, [], ◌∷◌, map, filter, length, slice_index_or, Bool, true, false, None, IsSome, Ok, Err, IsTrue}
 use Rattle.std.specs.declared.cmp.Ordering.TheVariants.{Less}
 use Rattle.std.specs.Ordering.{on}
@@ -38,9 +38,9 @@ is_query_text (Err e) = false
 abbrev pub IsQuery : List ℕ → Type 0
 IsQuery sql = (s : Schema) (c : Compiled) → understood s sql ≡ Ok c → c.returning ≡ None
 
--- A read leaves the database as it was, if the connection is still open, and doesn't add to the states that a stop may leave behind. It sets no limit on
--- the steps of later queries, and only a fault of the disk closes the connection. It wrote no row, not even in a transaction that was rolled back: the
--- store's counters of its writes are unchanged.
+-- A read leaves the database as it was, if the connection is still open, and doesn't add to the states that a stop may leave behind. It sets no limit on the
+-- steps of later queries, and only a disk fault closes the connection. It writes no row, not even in a transaction that is rolled back: the store's write
+-- counters are unchanged.
 pub record OnlyReads (old new : State) : Type 0 where
   pub limit : new.step_limit ≡ old.step_limit
   pub counts : old.faults ≤ new.faults
@@ -51,8 +51,7 @@ pub record OnlyReads (old new : State) : Type 0 where
   pub leaves : HasCleanDisk new → (trees : Trees) → new.may_leave trees → old.may_leave trees
   pub unwritten : HasCleanDisk new → KeepsCounts old new
 
--- the store failed: there was one more fault or refusal of the disk, or the connection was already closed, or the caller had set a limit on the steps of a
--- query
+-- the store failed: there was another disk fault or refusal, or the connection was already closed, or the caller had set a limit on the steps of a query
 abbrev pub HasFailed : State → State → Type 0
 HasFailed old new = MoreFaults old.faults new.faults ⊎ ((old.is_open ≡ false) ⊎ IsSome old.step_limit)
 
@@ -60,11 +59,11 @@ HasFailed old new = MoreFaults old.faults new.faults ⊎ ((old.is_open ≡ false
 abbrev pub FailsBy : State → State → Fault → Type 0
 FailsBy old new f = (f ≡ Memory) ⊎ ((f ≡ Store) × HasFailed old new)
 
--- in some table whose rows change, the rowids aren't distinct integers
+-- in a table whose rows change, the rowids aren't distinct integers
 abbrev pub SharesRowids : Database → Type 0
 SharesRowids db = (t : Table) × (changes_rows t ≡ true) × (HasWrongRowid (db.trees (tree_of t)) ⊎ RepeatsRowid (db.trees (tree_of t)))
 
--- why all rows of a table can't be listed, if that is reported as a fault of the store: the store failed, or rowids aren't distinct integers
+-- why a table's rows can't all be listed, if that is reported as a fault of the store: the store failed, or rowids aren't distinct integers
 abbrev pub FailsToList : Database → State → State → Fault → Type 0
 FailsToList db old new f = f ≡ Store → HasFailed old new ⊎ SharesRowids db
 
@@ -73,7 +72,7 @@ pub record Lists (t : Table) (test : Row → Bool) (db : Database) (rows : List 
   pub same : IsPermutation (map (at (column_places t)) (filter test (tuples t db.trees))) rows
   pub sorted : IsSorted (row_cmp t) rows
 
--- the rows in these contents that pass a test, in key order
+-- the rows in the given contents that pass a test, in key order
 pub record Finds (t : Table) (test : Row → Bool) (c : Contents) (rows : List Row) : Type 0 where
   pub same : IsPermutation (filter test (c t)) rows
   pub sorted : IsSorted (row_cmp t) rows
@@ -83,17 +82,17 @@ pub record ListsKeyed (t : Table) (db : Database) (rows : List Row) : Type 0 whe
   pub keyed : changes_rows t ≡ true → Keyed (db.trees (tree_of t))
   pub lists : Lists t (begins_with []) db rows
 
--- all rows of a table, with values of the right kinds, and each with a key above that of the row before
+-- all rows of a table, with values of the correct kinds, and each with a key above that of the preceding row
 pub record ListsEntries (t : Table) (db : Database) (rows : List Row) : Type 0 where
   pub all : ListsKeyed t db rows
   pub typed : list_all (is_row_of t) rows ≡ true
   pub rise : IsStrictlySortedBy (row_cmp t) rows
 
--- the table's rows are not those of any list of rows of this kind in ascending key order
+-- no list of rows of the given kind in ascending key order has the table's rows
 abbrev pub HoldsNone : Table → (Row → Type 0) → Database → Type 0
 HoldsNone t IsRow db = (rows : List Row) → AllByRecursion IsRow rows → IsStrictlySortedBy (row_cmp t) rows → ¬ HoldsTable t rows db.trees
 
--- some row isn't of this kind
+-- some row isn't of the given kind
 abbrev pub HasInvalidRow : (Row → Type 0) → List Row → Type 0
 HasInvalidRow IsRow rows = (k : ℕ) × (k < length rows) × ¬ IsRow (slice_index_or rows k [])
 
@@ -101,11 +100,11 @@ HasInvalidRow IsRow rows = (k : ℕ) × (k < length rows) × ¬ IsRow (slice_ind
 abbrev pub FailsToRise : Table → List Row → Type 0
 FailsToRise t rows = (k : ℕ) × (k + 1 < length rows) × (row_cmp t (slice_index_or rows k []) (slice_index_or rows (k + 1) []) ≢ Less)
 
--- a row with the rowid as its only column
+-- a row whose only column is the rowid
 abbrev pub alone : Row → Row
 alone r = rowid r ∷ []
 
--- the rowids of the table, in order, each the only column of its row
+-- the rowids of the table, in order, each as the only column of its row
 pub record ListsRowids (t : Table) (db : Database) (rows : List Row) : Type 0 where
   pub ordered : List Row
   pub same : IsPermutation (db.trees (tree_of t)) ordered
@@ -117,7 +116,7 @@ pub record RowidsRise (rows : List Row) : Type 0 where
   pub ints : (k : ℕ) → k < length rows → is_int (rowid (slice_index_or rows k [])) ≡ true
   pub rise : (k : ℕ) → k + 1 < length rows → value_cmp (rowid (slice_index_or rows k [])) (rowid (slice_index_or rows (k + 1) [])) ≡ Less
 
--- some rowid isn't an integer, or is an integer that isn't below the next one
+-- some rowid isn't an integer, or is an integer not below the next one
 abbrev pub RowidsFailToRise : List Row → Type 0
 RowidsFailToRise rows =
     ((k : ℕ) × (k < length rows) × (is_int (rowid (slice_index_or rows k [])) ≡ false))

@@ -12,7 +12,7 @@ IsNumber v = (n : ℕ) × (n < 2 ^ 32) × (v ≡ Int (pos n))
 abbrev pub IsAmount : Value → Type 0
 IsAmount v = (n : ℕ) × (v ≡ Int (pos n))
 
--- a text that is UTF-8
+-- a text in valid UTF-8
 abbrev pub IsText : Value → Type 0
 IsText v = (t : List ℕ) × IsUtf8 t × (v ≡ Text t)
 

@@ -25,7 +25,7 @@ use Rattle.tables.specs.Schema.{shape, columns_of, places_from, place_sought, ta
 abbrev pub tuples : Table → Trees → List Row
 tuples t trees = map (drop 1) (trees (tree_of t))
 
--- the values at these indices; NULL past the end
+-- the values at the given indices; NULL past the end
 abbrev pub at : List ℕ → Row → Row
 at places row = map (column row) places
 
@@ -37,51 +37,51 @@ column_places t = places_from 0 (length (columns_of t))
 abbrev pub key_places : Table → List ℕ
 key_places t = places_from 0 (shape t).key
 
--- whether the value is of this kind
+-- whether the value is of the given kind
 abbrev pub is_of : Kind → Value → Bool
 is_of Integer (Int n) = true
 is_of Words (Text t) = true
 is_of Bytes (Blob b) = true
 is_of _ _ = false
 
--- whether there is one value for each column, of the column's kind, and none is NULL
+-- whether there is exactly one value for each column, of the column's kind and not NULL
 abbrev pub are_of : List Column → Row → Bool
 are_of [] [] = true
 are_of (c ∷ cs) (v ∷ vs) = is_of c.kind v && are_of cs vs
 are_of _ _ = false
 
--- whether the row has a value of the right kind for each column
+-- whether the row has a value of the correct kind for each column
 abbrev pub is_row_of : Table → Row → Bool
 is_row_of t = are_of (columns_of t)
 
--- whether these values are of the kinds of the first columns
+-- whether the values have the kinds of the first columns
 abbrev pub are_first : List Column → Row → Bool
 are_first cs [] = true
 are_first [] (v ∷ vs) = false
 are_first (c ∷ cs) (v ∷ vs) = is_of c.kind v && are_first cs vs
 
--- whether these values are of the kinds of the columns with which the key begins
+-- whether the values have the kinds of the columns with which the key begins
 abbrev pub begins_key : Table → Row → Bool
 begins_key t = are_first (columns_of t)
 
--- whether two rows have the same values at these indices, as SQL's = compares them
+-- whether two rows have the same values at the given indices, as compared by SQL's =
 abbrev pub agree_at : List ℕ → Row → Row → Bool
 agree_at [] a b = true
 agree_at (p ∷ ps) a b = equal Binary (column a p) (column b p) && agree_at ps a b
 
--- whether the row has this key, which is in the first columns
+-- whether the row has the given key, which is in the first columns
 abbrev pub has_key : Table → Row → Row → Bool
 has_key t key row = agree_at (key_places t) row key
 
--- whether the row begins with these values
+-- whether the row begins with the given values
 abbrev pub begins_with : Row → Row → Bool
 begins_with key row = agree_at (places_from 0 (length key)) row key
 
--- whether the row has this value in a column outside the key
+-- whether the row has the given value in a column outside the key
 abbrev pub refers_to : Reference → Value → Row → Bool
 refers_to r value row = equal Binary (column row (place_sought r)) value
 
--- whether a value is of the kind of the column with the number `place`; the columns are numbered from `k`
+-- whether a value has the kind of column `place`; the columns are numbered from `k`
 abbrev pub takes_from : ℕ → ℕ → Value → List Column → Bool
 takes_from k place value [] = true
 takes_from k place value (c ∷ cs) = (if k == place then is_of c.kind value else true) && takes_from (suc k) place value cs
@@ -90,20 +90,20 @@ takes_from k place value (c ∷ cs) = (if k == place then is_of c.kind value els
 abbrev pub value_set : SettableColumn → Row → Value
 value_set g values = column values (shape (table_set g)).key
 
--- whether the value to be set is of the kind of its column
+-- whether the value to be set has the kind of its column
 abbrev pub is_setting : SettableColumn → Row → Bool
 is_setting g values = takes_from 0 (place_set g) (value_set g values) (columns_of (table_set g))
 
--- the row with this value in the column that is set
+-- the row with the given value in the column that is set
 abbrev pub with_value : SettableColumn → Value → Row → Row
 with_value g value row = map (λ p. if p == place_set g then value else column row p) (column_places (table_set g))
 
--- this many keys, each ordered as SQL orders values
+-- the given number of keys, each ordered as SQL orders values
 abbrev pub ascending_keys : ℕ → List Key
 ascending_keys zero = []
 ascending_keys (suc n) = ascending Binary ∷ ascending_keys n
 
--- the order of rows by this many of their first columns
+-- the order of rows by the given number of leading columns
 abbrev pub keys_cmp : ℕ → Row → Row → Ordering
 keys_cmp n = key_cmp 0 (ascending_keys n)
 
@@ -116,7 +116,7 @@ pub record Keyed (rows : List Row) : Type 0 where
   pub ints : (r : Row) → Has rows r → is_int (rowid r) ≡ true
   pub once : (a b : Row) → Has rows a → Has rows b → rowid a ≡ rowid b → a ≡ b
 
--- some rowid is not an integer
+-- some rowid isn't an integer
 abbrev pub HasWrongRowid : List Row → Type 0
 HasWrongRowid rows = (r : Row) × Has rows r × (is_int (rowid r) ≡ false)
 

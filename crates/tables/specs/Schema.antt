@@ -28,7 +28,7 @@ Definition = sqlite_table.Table
 
 -- ---- differences between the tables
 
--- a column as it is defined in the text of its table: whole numbers, texts or bytes, and the range to which it is restricted
+-- a column as defined in the text of its table: whole numbers, texts or bytes, and the range it is restricted to
 pub record Field : Type 0 where
   pub name : List ℕ
   pub kind : Kind
@@ -50,7 +50,7 @@ words name = record { name = name; kind = Text; range = None }
 abbrev pub bytes : List ℕ → Field
 bytes name = record { name = name; kind = Blob; range = None }
 
--- A table's name and columns; `key` is the number of first columns that form the key.
+-- A table's name and columns; `key` is the number of leading columns that form the key.
 pub record Shape : Type 0 where
   pub name : List ℕ
   pub key : ℕ
@@ -108,7 +108,7 @@ table_sought WardOfBatch = Batch
 abbrev pub place_sought : Reference → ℕ
 place_sought WardOfBatch = 1
 
--- the table in which a column outside the key is set on its own
+-- the table in which a column outside the key is set individually
 abbrev pub table_set : SettableColumn → Table
 table_set VersionOfOffice = Office
 table_set PhaseOfWard = Ward
@@ -130,7 +130,7 @@ column_of f = record { name = f.name; kind = f.kind; is_strict = true; not_null 
 abbrev pub columns_of : Table → List Column
 columns_of t = map column_of (shape t).fields
 
--- the check that the column at this index is in its range, if it has one
+-- the check that the column at the given index is in its range, if it has one
 abbrev pub range_check : ℕ → Option (ℕ × ℕ) → List Term
 range_check place None = []
 range_check place (Some range) = op2 And (op2 (Compare Ge Binary) (col 1 place) (lit (Int (pos range.0)))) (op2 (Compare Le Binary) (col 1 place) (lit (Int (pos range.1)))) ∷ []
@@ -160,7 +160,7 @@ all_tables = Office ∷ Ward ∷ Candidate ∷ Batch ∷ Keying ∷ Verdict ∷ 
 
 -- ---- the schema
 
--- this many consecutive numbers, from this one
+-- a run of consecutive numbers, with the given start and length
 abbrev pub places_from : ℕ → ℕ → List ℕ
 places_from k zero = []
 places_from k (suc n) = k ∷ places_from (suc k) n
@@ -182,7 +182,7 @@ keyed_by key name tree columns checks = record {
   is_counted = false;
 }
 
--- a table of this shape, with its rows in this tree
+-- a table with the given shape, whose rows are in the given tree
 abbrev pub shaped : Shape → ℕ → Definition
 shaped s tree = keyed_by (places_from 1 s.key) s.name tree (map column_of s.fields) (checks_from 1 s.fields)
 
@@ -190,7 +190,7 @@ shaped s tree = keyed_by (places_from 1 s.key) s.name tree (map column_of s.fiel
 abbrev pub tree_of : Table → ℕ
 tree_of t = 2 * place_of t
 
--- the table as it is defined in the schema
+-- the table as defined in the schema
 abbrev pub definition : Table → Definition
 definition t = shaped (shape t) (tree_of t)
 
@@ -206,14 +206,14 @@ schema_from n rest others views = record { tables = map definition (take n all_t
 abbrev pub no_schema : Schema
 no_schema = record { tables = []; indexes = []; views = [] }
 
--- the schema begins with the tables up to this one
+-- the schema begins with the tables up to the given one
 pub record BeginsTo (t : Table) (s : Schema) : Type 0 where
   pub rest : List Definition
   pub others : List Index
   pub views : List View
   pub is : s ≡ schema_from (1 + place_of t) rest others views
 
--- these tables refer to no other tables
+-- the given tables refer to no other tables
 abbrev pub AreFree : List Definition → Type 0
 AreFree = AllByRecursion (λ t. t.references ≡ [])
 

@@ -18,11 +18,11 @@ joined between (one ∷ other ∷ more) = one ++ between ++ joined between (othe
 abbrev pub comma : List ℕ
 comma = codes ", "
 
--- the parameter with this index: ?1 for 0, and so on up to ?9
+-- the parameter with the given index: ?1 for 0, and so on up to ?9
 abbrev pub parameter : ℕ → List ℕ
 parameter place = codes "?" ++ ((49 + place) ∷ [])
 
--- each name equated with its parameter; parameters are numbered from `place`
+-- each name, equated with its parameter; parameters are numbered from `place`
 abbrev pub matched : ℕ → List (List ℕ) → List (List ℕ)
 matched place [] = []
 matched place (name ∷ more) = (name ++ codes " = " ++ parameter place) ∷ matched (suc place) more
@@ -33,12 +33,12 @@ names_of t = map (λ (f : Field). f.name) (shape t).fields
 abbrev pub key_names : Table → List (List ℕ)
 key_names t = take (shape t).key (names_of t)
 
--- a WHERE clause that requires all of these conditions
+-- a WHERE clause that requires all the given conditions
 abbrev pub where_text : List (List ℕ) → List ℕ
 where_text [] = []
 where_text (one ∷ more) = codes " WHERE " ++ joined (codes " AND ") (one ∷ more)
 
--- selects all columns of the rows that meet these conditions, in key order
+-- selects all columns of the rows that meet the given conditions, in key order
 abbrev pub select_where : Table → List (List ℕ) → List ℕ
 select_where t conditions = codes "SELECT " ++ joined comma (names_of t) ++ codes " FROM " ++ (shape t).name ++ where_text conditions ++ codes " ORDER BY " ++ joined comma (key_names t)
 
@@ -49,7 +49,7 @@ kind_text Text = codes " TEXT NOT NULL"
 kind_text Blob = codes " BLOB NOT NULL"
 kind_text _ = codes " INT NOT NULL"
 
--- the digits of a number, at most this many
+-- the digits of a number, up to the given count
 abbrev pub numeral : ℕ → ℕ → List ℕ
 numeral zero n = []
 numeral (suc most) n = if nat_lt n 10 then (48 + n) ∷ [] else numeral most (n / 10) ++ ((48 + n % 10) ∷ [])
@@ -58,7 +58,7 @@ abbrev pub range_text : List ℕ → Option (ℕ × ℕ) → List ℕ
 range_text name None = []
 range_text name (Some range) = codes " CHECK (" ++ name ++ codes " BETWEEN " ++ numeral 4 range.0 ++ codes " AND " ++ numeral 4 range.1 ++ codes ")"
 
--- a key of one column is declared next to that column
+-- a single-column key is declared in that column's definition
 abbrev pub key_text : ℕ → List ℕ
 key_text key = if key == 1 then codes " PRIMARY KEY" else []
 
@@ -89,7 +89,7 @@ select_text t n = select_where t (matched 0 (take n (names_of t)))
 unfoldable pub scan_text : Table → List ℕ
 scan_text t = codes "SELECT " ++ joined comma (names_of t) ++ codes " FROM " ++ (shape t).name
 
--- selects all columns of the rows with the parameter's value in a column outside the key, in key order
+-- selects all columns of the rows whose value in a column outside the key equals the parameter, in key order
 unfoldable pub select_by_reference_text : Reference → List ℕ
 select_by_reference_text r = select_where (table_sought r) (matched 0 (slice_index_or (names_of (table_sought r)) (place_sought r) [] ∷ []))
 
@@ -105,16 +105,16 @@ select_rowid_text t = codes "SELECT rowid FROM " ++ (shape t).name ++ where_text
 unfoldable pub select_between_text : Table → List ℕ
 select_between_text t = codes "SELECT " ++ joined comma (names_of t) ++ codes " FROM " ++ (shape t).name ++ codes " WHERE rowid >= ?1 AND rowid <= ?2"
 
--- replaces the row with a key; the parameters are the values of all columns in order
+-- replaces the row with the given key; the parameters are the values of all columns in order
 unfoldable pub update_text : Table → List ℕ
 update_text t = codes "UPDATE " ++ (shape t).name ++ codes " SET " ++ joined comma (matched (shape t).key (drop (shape t).key (names_of t))) ++ where_text (matched 0 (key_names t))
 
--- sets one column of the row with a key; the parameters are the key, then the value
+-- sets one column of the row with the given key; the parameters are the key, then the value
 unfoldable pub set_text : SettableColumn → List ℕ
 set_text g =
     let t = table_set g in
     codes "UPDATE " ++ (shape t).name ++ codes " SET " ++ joined comma (matched (shape t).key (slice_index_or (names_of t) (place_set g) [] ∷ [])) ++ where_text (matched 0 (key_names t))
 
--- removes the row with a key; the parameters are the key's values
+-- removes the row with the given key; the parameters are the key's values
 unfoldable pub delete_text : Table → List ℕ
 delete_text t = codes "DELETE FROM " ++ (shape t).name ++ where_text (matched 0 (key_names t))

@@ -13,16 +13,16 @@ use Rattle.tables.specs.Rows.{at, column_places}
 use Rattle.tables.specs.Contents.{Contents}
 use Rattle.tables.specs.Reading.{Finds}
 
--- no matter which entries were consumed before, this one was consumed after them
+-- whichever entries were consumed before, this one was consumed after them
 abbrev pub TakesNext : {V X : Type 0} → (V → List X → Type 0) → V → V → X → Type 0
 TakesNext {V} {X} HasVisited old new entry = (before : List X) → HasVisited old before → HasVisited new (before ++ entry ∷ [])
 
--- no matter which entries were consumed before, those whose rows pass the test were consumed after them, in key order
+-- whichever entries were consumed before, those whose rows pass the test were consumed after them, in key order
 abbrev pub TakesFound : {V X : Type 0} → (V → List X → Type 0) → (X → Row) → Table → (Row → Bool) → Contents → V → V → Type 0
 TakesFound {V} {X} HasVisited row_of t test c old new = (found : List X) × Finds t test c (map row_of found) × ((before : List X) → HasVisited old before → HasVisited new (before ++ found))
 
 module _ {S V X : Type 0} (g : Ghosts S) (t : Table) (row_of : X → Row) (HasVisited : V → List X → Type 0) where
-  -- one more row was read and its entry consumed, or there was none
+  -- another row was read and its entry consumed, or there was none
   abbrev pub Visits : Held S → Held S → V → V → Bool → Type 0
   Visits old new was is true = (row : Row) × (entry : X) × Advances g old new (Some row) × (at (column_places t) row ≡ row_of entry) × TakesNext HasVisited was is entry
   Visits old new was is false = Advances g old new None × (is ≡ was)

@@ -12,7 +12,7 @@ use sqlite::Row;
 use sqlite_value::value::ValueRef;
 use std::alloc::Global;
 
-/// The entries of a table, each in a row of its own. A new table requires only an `impl` of this trait: the values of its
+/// The entries of a table, each stored as a row. A new table requires only an `impl` of this trait: the values of its
 /// columns, in order, and how to read them.
 pub trait Entries {
     /// The type of entry that a row represents.
@@ -28,16 +28,16 @@ pub trait Entries {
     /// The table.
     const TABLE: Table;
 
-    /// Returns the values of the entry's row; `Memory` if an allocation fails.
+    /// Returns the values of the entry's row. Returns `Memory` if an allocation fails.
     fn values<'a>(entry: &'a Self::Entry, alloc: Global) -> Result<Vec<ValueRef<'a>>, Fault>
         ensures values { IfOk result (λ values. bound values.items ≡ row_of entry.now) }
         ensures cause { IfErr result (λ f. f ≡ Fault.Memory) };
 
-    /// Returns the entry that a row represents; `Damaged` if it doesn't represent one.
+    /// Returns the entry that a row represents. Returns `Damaged` if the row doesn't represent one.
     fn read(row: &Row) -> Result<Self::Entry, Fault>
         ensures reads { IfOk result (λ entry. at (column_places TABLE) row.now ≡ row_of entry) }
         ensures cause { IfErr result (λ f. (f ≡ Fault.Memory) ⊎ ((f ≡ Fault.Damaged) × ¬ is_row row.now)) };
 
-    // An entry's row has a value of the right kind for each column.
+    // An entry's row has a value of the correct kind for each column.
     ghost typed: { (entry : Self.Entry) → is_row_of TABLE (row_of entry) ≡ true };
 }

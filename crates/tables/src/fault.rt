@@ -13,11 +13,11 @@ pub enum Fault {
     Memory,
     /// The store refused a call for another reason.
     Store,
-    /// The rows are not the tables of any state of an office.
+    /// The rows don't form the tables of any state of an office.
     Damaged,
     /// An earlier fault closed the office.
     Closed,
-    /// The database contains no office or, if one is to be created, already has a table with one of its names.
+    /// The database contains no office or, when one is being created, already has a table with one of its names.
     WrongDatabase,
     /// A later program created the tables.
     NewerSchema,
@@ -26,7 +26,7 @@ pub enum Fault {
 }
 
 impl Fault {
-    /// Returns the number of the fault, from 101, and its text.
+    /// Returns the fault's number, starting from 101, and its text.
     fn told(&self) -> (u32, &'static str)
         ensures number { result.0 ≡ fault_number self.now }
         ensures text { result.1.now ≡ fault_text self.now }
@@ -42,14 +42,14 @@ impl Fault {
         }
     }
 
-    /// Returns the number of the fault, from 101.
+    /// Returns the fault's number, starting from 101.
     pub fn number(&self) -> u32
         ensures { result ≡ fault_number self.now }
     {
         self.told().0
     }
 
-    /// Returns the text of the fault.
+    /// Returns the fault's text.
     pub fn text(&self) -> &'static str
         ensures { result.now ≡ fault_text self.now }
     {
@@ -70,7 +70,7 @@ impl fmt::Display for Fault {
 
 impl std::error::Error for Fault {}
 
-/// Returns the fault for a call that `sqlite` refused: `Memory` if out of memory, and `Store` for any other reason.
+/// Returns the fault for a call that `sqlite` refused: `Memory` if it was out of memory, `Store` for any other reason.
 pub fn fault_of(e: Error) -> Fault
     ensures value { result ≡ fault_of e }
     ensures memory { (result ≡ Fault.Memory) ↔ (e ≡ Error.SqliteFailure ErrorCode.OutOfMemory) }

@@ -1,4 +1,4 @@
-//! Finds entries of a table: those with a key, with a prefix of it, or with a value in another column.
+//! Finds entries of a table: those with a given key or key prefix, or with a given value in another column.
 
 ghost use Rattle.std.specs.Prelude.{◌≡◌, ◌≤◌, ◌⊎◌, true, false, length, filter, map, Option, option_map, IfOk, IfErr, IfSome, OnOk, IsTrue};
 ghost use Rattle.std.specs.List.{AllByRecursion};
@@ -23,7 +23,8 @@ use sqlite::{Alter, Connection, Row};
 use sqlite_value::value::ValueRef;
 use std::alloc::Global;
 
-/// Returns the entries whose key begins with these values, in key order; `Damaged` if a row doesn't represent an entry.
+/// Returns the entries whose key begins with the given values, in key order. Returns `Damaged` if a row doesn't
+/// represent an entry.
 pub fn entries_beginning<E: Entries, S: Alter>(
     alloc: Global,
     conn: &mut Connection<S>,
@@ -46,8 +47,8 @@ pub fn entries_beginning<E: Entries, S: Alter>(
     Ok(entries)
 }
 
-/// Returns the entries with this value in a column outside the key, in key order; `Damaged` if a row doesn't represent an
-/// entry.
+/// Returns the entries with the given value in a column outside the key, in key order. Returns `Damaged` if a row
+/// doesn't represent an entry.
 pub fn entries_referring<E: Entries, S: Alter>(
     alloc: Global,
     conn: &mut Connection<S>,
@@ -71,7 +72,7 @@ pub fn entries_referring<E: Entries, S: Alter>(
     Ok(entries)
 }
 
-/// Returns the entry of a query's only row, if there is a row.
+/// Returns the entry of a query's only row, if there is one.
 fn first_entry<E: Entries>(rows: &[Row]) -> Result<Option<E::Entry>, Fault>
     ensures entry { (row : Option Row) → rows.now ≡ option_to_list row → IfOk result (λ found. option_map (at (column_places E.TABLE)) row ≡ option_map E.row_of found) }
     ensures cause { IfErr result (λ f. (f ≡ Fault.Memory) ⊎ ((f ≡ Fault.Damaged) × HasInvalidRow E.is_row rows.now)) }
@@ -82,7 +83,7 @@ fn first_entry<E: Entries>(rows: &[Row]) -> Result<Option<E::Entry>, Fault>
     }
 }
 
-/// Returns the entry with this key, if there is one; `Damaged` if its row doesn't represent an entry.
+/// Returns the entry with the given key, if there is one. Returns `Damaged` if its row doesn't represent an entry.
 pub fn find_entry<E: Entries, S: Alter>(
     conn: &mut Connection<S>,
     key: &[ValueRef<'_>],

@@ -16,8 +16,8 @@ use crate::texts::insert_text;
 use sqlite::{Alter, Transaction};
 use sqlite_value::value::ValueRef;
 
-/// Inserts one row of these values, one value per column and of the column's kind. After a fault, for example if a row with
-/// the same key exists, the last commit is unchanged.
+/// Inserts one row with the given values, one per column and of the column's kind. After a fault, for example if a row
+/// with the same key exists, the last commit is unchanged.
 pub fn insert<S: Alter>(
     tx: &mut Transaction<'_, S>,
     table: Table,

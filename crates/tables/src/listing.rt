@@ -19,7 +19,7 @@ use crate::table::Table;
 use sqlite::{Alter, Connection, Row};
 use std::alloc::Global;
 
-/// Returns the entries of rows; `Damaged` if a row doesn't represent an entry.
+/// Returns the entries of the given rows. Returns `Damaged` if a row doesn't represent an entry.
 pub(crate) fn entries_of<E: Entries>(alloc: Global, rows: &[Row]) -> Result<Vec<E::Entry>, Fault>
     ensures reads { IfOk result (λ found. map (at (column_places E.TABLE)) rows.now ≡ map E.row_of found.items) }
     ensures cause { IfErr result (λ f. (f ≡ Fault.Memory) ⊎ ((f ≡ Fault.Damaged) × HasInvalidRow E.is_row rows.now)) }
@@ -59,8 +59,8 @@ pub fn keyed_rows<S: Alter>(
     Ok(rows)
 }
 
-/// Returns all entries of a table, in key order. `Damaged` if a row doesn't represent an entry, or if its key isn't above
-/// that of the row before.
+/// Returns all entries of a table, in key order. Returns `Damaged` if a row doesn't represent an entry, or if its key
+/// isn't above that of the preceding row.
 pub fn all_entries<E: Entries, S: Alter>(
     alloc: Global,
     conn: &mut Connection<S>,

@@ -1,4 +1,4 @@
-//! Creates the tables of a new office, and those that an older office lacks.
+//! Creates the tables of a new office, and any that an older office lacks.
 
 ghost use Rattle.std.specs.Prelude.{◌≡◌, ◌↔◌, ◌<◌, ◌+◌, ℕ, [], true, ⊤, IfErr};
 ghost use Rattle.sqlite.specs.Schema.{Schema};
@@ -18,7 +18,7 @@ use crate::table::Table;
 use crate::texts::create_text;
 use sqlite::{Alter, Transaction};
 
-/// Creates a table without rows, after those that precede it; their rows are unchanged. After a fault, the last commit is
+/// Creates an empty table, after those that precede it; their rows are unchanged. After a fault, the last commit is
 /// unchanged.
 pub fn create_table<S: Alter>(tx: &mut Transaction<'_, S>, table: Table) -> Result<(), Fault>
     ensures makes { Alters S.Store tx.old.conn tx.new.conn result (λ (c : Contents) s. (c table ≡ []) × SeesMade (place_of table) c s) (SeesMade (place_of table + 1)) }
@@ -27,7 +27,7 @@ pub fn create_table<S: Alter>(tx: &mut Transaction<'_, S>, table: Table) -> Resu
     execute(tx, create_text(table), &[])
 }
 
-/// Creates all tables of an office, each empty, in an empty database. After a fault, the last commit is unchanged.
+/// Creates all tables of an office, with no rows, in an empty database. After a fault, the last commit is unchanged.
 pub fn create_tables<S: Alter>(tx: &mut Transaction<'_, S>) -> Result<(), Fault>
     ensures { Alters S.Store tx.old.conn tx.new.conn result (λ (x : ⊤). SeesNothing) (λ x. Sees no_contents) }
 {
@@ -37,9 +37,9 @@ pub fn create_tables<S: Alter>(tx: &mut Transaction<'_, S>) -> Result<(), Fault>
     Ok(())
 }
 
-/// The laws of an office that has only the first tables, and of how it becomes a complete one: each existing table can be
-/// read, and what a stop left can be identified after reopening. A transaction begins at the state of its connection, and
-/// sees an office once all tables are created.
+/// The laws of an office that has only the first tables, and of how it becomes complete: each existing table can be
+/// read, and what a stop has left can be identified after reopening. A transaction begins in the state of its
+/// connection, and sees an office once all tables have been created.
 pub fn first_tables_lead_to_all<S: Alter>()
     ensures holds { (n : ℕ) → (c : Contents) → (db : Database) → FirstAt n c db ↔ HasFirstTables n c db }
     ensures reads { (n : ℕ) → (s : Schema) → s ≡ schema_from n [] [] [] → (t : Table) → place_of t < n → BeginsTo t s }

@@ -15,7 +15,7 @@ use sqlite_value::value::ValueRef;
 use std::alloc::AllocError;
 use std::cmp::Ordering;
 
-/// Returns the value at an index, or NULL past the end.
+/// Returns the value at the given index, or NULL past the end.
 fn value_at(row: &Row, place: usize) -> ValueRef<'_>
     ensures { owned result ≡ column row.now place }
 {
@@ -25,8 +25,7 @@ fn value_at(row: &Row, place: usize) -> ValueRef<'_>
     }
 }
 
-/// Returns the order of two rows by `columns` columns, starting at `place`. Recurses once per column of the key, so at most
-/// four times.
+/// Compares two rows by `columns` columns, starting at `place`. Recurses once per key column, so at most four times.
 fn order_from(a: &Row, b: &Row, place: usize, columns: usize) -> Ordering
     requires { place + columns < 2 ^ 64 }
     ensures { result ≡ key_cmp place (ascending_keys columns) a.now b.now }
@@ -39,14 +38,14 @@ fn order_from(a: &Row, b: &Row, place: usize, columns: usize) -> Ordering
     here.then(later)
 }
 
-/// Returns the order of two rows by the key of their table.
+/// Compares two rows by the key of their table.
 pub(crate) fn key_order(table: Table, a: &Row, b: &Row) -> Ordering
     ensures { result ≡ row_cmp table a.now b.now }
 {
     order_from(a, b, 0, table.key_columns())
 }
 
-/// Sorts rows by the key of their table. `AllocError` if an allocation fails.
+/// Sorts rows by the key of their table. Returns `AllocError` if an allocation fails.
 pub(crate) fn put_in_order(table: Table, rows: &mut Vec<Row>) -> Result<(), AllocError>
     ensures same { IsPermutation rows.old.items rows.new.items }
     ensures sorted { OnOk result (IsSorted (row_cmp table) rows.new.items) }

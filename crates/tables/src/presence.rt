@@ -13,26 +13,26 @@ use sqlite::{Alter, Connection};
 use sqlite_schema::names::same_name;
 use sqlite_schema::schema::Schema;
 
-/// The tables of an office that a database has. If it lacks the last ones, it was created by an older program.
+/// The tables of an office that a database has. A database that lacks the last ones was created by an older program.
 #[derive(Clone, Copy, PartialEq, Eq)]
 pub enum TablesPresent {
     /// All tables.
     Whole,
-    /// All but the table of third clerks.
+    /// All except the table of third clerks.
     WithoutThird,
-    /// As in `WithoutThird`, but also without the two tables from which a count resumes.
+    /// Like `WithoutThird`, but also without the two tables from which a count resumes.
     WithoutCounts,
     /// Any others, or none.
     Other,
 }
 
-/// The number of tables of an office before there was one for third clerks.
+/// The number of tables that an office had before there was one for third clerks.
 const BEFORE_THIRD: usize = 10;
 
-/// The number of tables of an office before there were those from which a count resumes.
+/// The number of tables that an office had before there were the two from which a count resumes.
 const BEFORE_COUNTS: usize = 8;
 
-/// Returns whether there is a table with the name of this one, ignoring the case of ASCII letters.
+/// Returns whether there is a table with the given table's name, ignoring the case of ASCII letters.
 fn is_named(schema: &Schema, table: Table) -> bool
     ensures { result ≡ has_table table schema.now }
 {
@@ -44,21 +44,21 @@ fn is_named(schema: &Schema, table: Table) -> bool
         .any(|other| same_name(other.name.as_slice(), name))
 }
 
-/// Returns whether any of these tables exists, by name.
+/// Returns whether any of the given tables exists, by name.
 fn has_any(schema: &Schema, tables: &[Table]) -> bool
     ensures { result ≡ list_any (λ t. has_table t schema.now) tables.now }
 {
     tables.iter().any(|table| is_named(schema, *table))
 }
 
-/// Returns whether each of these tables exists, by name.
+/// Returns whether each of the given tables exists, by name.
 fn has_all(schema: &Schema, tables: &[Table]) -> bool
     ensures { result ≡ list_all (λ t. has_table t schema.now) tables.now }
 {
     tables.iter().all(|table| is_named(schema, *table))
 }
 
-/// Returns whether the database has a table with the name of this one.
+/// Returns whether the database has a table with the given table's name.
 pub fn has_table<S: Alter>(conn: &Connection<S>, table: Table) -> bool
     ensures value { result ≡ has_table table (state S.Store conn.now).now.schema }
     ensures live { IsLive (state S.Store conn.now) }
@@ -66,7 +66,7 @@ pub fn has_table<S: Alter>(conn: &Connection<S>, table: Table) -> bool
     is_named(conn.schema(), table)
 }
 
-/// Returns whether the database has a table with any of an office's table names.
+/// Returns whether the database has a table with the name of any of an office's tables.
 pub fn has_some_table<S: Alter>(conn: &Connection<S>) -> bool
     ensures value { result ≡ has_some_table (state S.Store conn.now).now.schema }
     ensures live { IsLive (state S.Store conn.now) }
@@ -74,7 +74,7 @@ pub fn has_some_table<S: Alter>(conn: &Connection<S>) -> bool
     has_any(conn.schema(), &Table::ALL)
 }
 
-/// Returns whether the database has a table with each of an office's table names.
+/// Returns whether the database has a table with the name of each of an office's tables.
 pub fn has_every_table<S: Alter>(conn: &Connection<S>) -> bool
     ensures value { result ≡ has_every_table (state S.Store conn.now).now.schema }
     ensures live { IsLive (state S.Store conn.now) }

@@ -68,7 +68,7 @@ fn copy_next<S: Alter>(rows: &mut Rows<'_, S>, found: &mut Vec<Row>) -> Result<b
     }
 }
 
-/// Appends copies of all remaining rows; `Memory` also if there are more than 2^64 - 2.
+/// Appends copies of all remaining rows. Also returns `Memory` if there are more than 2^64 - 2.
 fn copy_rest<S: Alter>(rows: &mut Rows<'_, S>, found: &mut Vec<Row>) -> Result<(), Fault>
     ensures same_reference { rows.new.conn.ghost_name ≡ rows.old.conn.ghost_name }
     ensures shows { HasCleanDisk (state S.Store rows.new.conn.now) → (sql : List ℕ) → (params : Entry) → HasGiven S.Store sql params rows.old.conn.now found.old.items
@@ -88,8 +88,8 @@ fn copy_rest<S: Alter>(rows: &mut Rows<'_, S>, found: &mut Vec<Row>) -> Result<(
     Err(Fault::Memory)
 }
 
-/// Returns all rows of a table with all their columns, in the order in which the table stores them. They are read one at a
-/// time to keep `sqlite` from holding them all: it would keep the memory for later queries.
+/// Returns all rows of a table with all their columns, in the order in which the table stores them. They are read one
+/// at a time to keep `sqlite` from holding them all: it would keep that memory for later queries.
 fn scanned_rows<S: Alter>(
     alloc: Global,
     conn: &mut Connection<S>,
@@ -111,9 +111,9 @@ fn scanned_rows<S: Alter>(
     Ok(found)
 }
 
-/// Returns all rows of a table with all their columns, in key order. Requires only that the schema begins with the tables up
-/// to this one. The rows are read in stored order and sorted here, because `sqlite`, asked for key order, would look up each
-/// row through the key's index.
+/// Returns all rows of a table with all their columns, in key order. Requires only that the schema begin with the
+/// tables up to this one. The rows are read in stored order and sorted here because `sqlite`, if asked for key order,
+/// would look up each row through the key's index.
 pub fn all_rows<S: Alter>(
     alloc: Global,
     conn: &mut Connection<S>,
@@ -136,7 +136,7 @@ pub fn all_rows<S: Alter>(
     }
 }
 
-/// Returns the rows whose key begins with these values, up to the whole key, with all their columns, in key order.
+/// Returns the rows whose key begins with the given values, up to the whole key, with all their columns, in key order.
 pub fn rows_beginning<S: Alter>(
     conn: &mut Connection<S>,
     table: Table,
@@ -156,7 +156,7 @@ pub fn rows_beginning<S: Alter>(
     query(conn, select_text(table, key.len()), key)
 }
 
-/// Returns the rows with this value in a column outside the key, with all their columns, in key order.
+/// Returns the rows with the given value in a column outside the key, with all their columns, in key order.
 pub fn rows_referring<S: Alter>(
     conn: &mut Connection<S>,
     reference: Reference,

@@ -16,8 +16,8 @@ use crate::texts::delete_text;
 use sqlite::{Alter, Transaction};
 use sqlite_value::value::ValueRef;
 
-/// Removes the row whose key has these values, in a table whose rows change; if there is no such row, the table is unchanged.
-/// After a fault, the last commit is unchanged.
+/// Removes the row whose key has the given values, from a table whose rows change; if there is no such row, the table
+/// is unchanged. After a fault, the last commit is unchanged.
 pub fn remove<S: Alter>(
     tx: &mut Transaction<'_, S>,
     table: Table,

@@ -17,8 +17,8 @@ use crate::texts::{set_text, update_text};
 use sqlite::{Alter, Transaction};
 use sqlite_value::value::ValueRef;
 
-/// Updates the row with the same key to these values, one value per column and of the column's kind, in a table whose rows
-/// change. If there is no such row, the table is unchanged. After a fault, the last commit is unchanged.
+/// Updates the row with the same key to the given values, one per column and of the column's kind, in a table whose
+/// rows change. If there is no such row, the table is unchanged. After a fault, the last commit is unchanged.
 pub fn replace<S: Alter>(
     tx: &mut Transaction<'_, S>,
     table: Table,
@@ -32,8 +32,9 @@ pub fn replace<S: Alter>(
     execute(tx, update_text(table), values)
 }
 
-/// Sets one column of the row with a key: the values are those of the key's columns, followed by the new value, which is of
-/// the column's kind. If there is no such row, the table is unchanged. After a fault, the last commit is unchanged.
+/// Sets one column of the row with the given key: the values are those of the key's columns, followed by the new value,
+/// which has the column's kind. If there is no such row, the table is unchanged. After a fault, the last commit is
+/// unchanged.
 pub fn set_value<S: Alter>(
     tx: &mut Transaction<'_, S>,
     setting: SettableColumn,

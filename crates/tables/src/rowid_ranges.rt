@@ -1,6 +1,6 @@
-//! Reads rows by rowid: the rowid of the row with a key, and adjacent rows.
+//! Reads rows by rowid: the rowid of the row with a given key, and adjacent rows.
 //!
-//! `sqlite` reads adjacent rows in half the time that it takes to look each up by its key. Where rows are stored is not part
+//! `sqlite` reads adjacent rows in half the time it takes to look each up by its key. Where rows are stored is not part
 //! of a table's contents, so callers check whether the rows are the ones they need.
 
 ghost use Rattle.std.specs.Prelude.{◌≡◌, true, false, length, map, filter, drop, IfOk, IfErr, IfSome, OnOk, IsTrue};
@@ -30,7 +30,7 @@ use sqlite::{Alter, Connection, Row};
 use sqlite_value::value::ValueRef;
 use std::alloc::Global;
 
-/// Returns the rowids of the rows with this key.
+/// Returns the rowids of the rows with the given key.
 fn rowids_with<S: Alter>(
     conn: &mut Connection<S>,
     table: Table,
@@ -48,7 +48,7 @@ fn rowids_with<S: Alter>(
     query(conn, select_rowid_text(table), key)
 }
 
-/// Returns the rowid in the first row, which has no other columns, if it is an integer.
+/// Returns the rowid in the first row, which has no other columns, if the rowid is an integer.
 fn first_rowid(rows: &[Row]) -> Result<Option<i64>, Fault>
     ensures id { IfOk result (λ found. IfSome found (λ n. (row : _) × Has rows.now row × (rowid row ≡ Number n))) }
     ensures cause { IfErr result (λ f. f ≡ Fault.Memory) }
@@ -63,7 +63,7 @@ fn first_rowid(rows: &[Row]) -> Result<Option<i64>, Fault>
     }
 }
 
-/// Returns the rowid of the row with this key, if there is one and it is an integer.
+/// Returns the rowid of the row with the given key, if there is such a row and its rowid is an integer.
 pub fn find_rowid<S: Alter>(
     conn: &mut Connection<S>,
     table: Table,
@@ -83,7 +83,7 @@ pub fn find_rowid<S: Alter>(
     Ok(id)
 }
 
-/// Returns the rows with rowids from `low` to `high`, both included, with all their columns, in any order.
+/// Returns the rows with rowids from `low` to `high`, inclusive, with all their columns, in any order.
 pub fn rows_between<S: Alter>(
     conn: &mut Connection<S>,
     table: Table,
@@ -102,8 +102,8 @@ pub fn rows_between<S: Alter>(
     query(conn, select_between_text(table), &bounds)
 }
 
-/// Returns the entries whose rows have rowids from `low` to `high`, both included, in any order; `Damaged` if a row doesn't
-/// represent an entry.
+/// Returns the entries whose rows have rowids from `low` to `high`, inclusive, in any order. Returns `Damaged` if a row
+/// doesn't represent an entry.
 pub fn entries_between<E: Entries, S: Alter>(
     alloc: Global,
     conn: &mut Connection<S>,

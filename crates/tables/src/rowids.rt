@@ -41,7 +41,7 @@ fn is_below(id: i64, other: i64) -> bool
     id < other
 }
 
-/// Checks that each rowid is below the next one; `Store` if it isn't.
+/// Checks that each rowid is below the next one. Returns `Store` if one isn't.
 fn check_each(rows: &[Row]) -> Result<(), Fault>
     ensures rise { OnOk result (RowidsRise rows.now) }
     ensures fall { IfErr result (λ f. (f ≡ Fault.Memory) ⊎ ((f ≡ Fault.Store) × RowidsFailToRise rows.now)) }
@@ -72,7 +72,8 @@ fn all_rowids<S: Alter>(conn: &mut Connection<S>, table: Table) -> Result<Vec<Ro
     query(conn, select_rowids_text(table), &[])
 }
 
-/// Checks that the rowids of a table whose rows change are integers and that no two rows share one; `Store` if not.
+/// Checks that the rowids of a table whose rows change are integers and that no two rows share one. Returns `Store` if
+/// not.
 pub fn check_rowids<S: Alter>(conn: &mut Connection<S>, table: Table) -> Result<(), Fault>
     requires outside { conn.old.in_transaction ≡ false }
     requires changes { changes_rows table ≡ true }

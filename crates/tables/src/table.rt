@@ -54,7 +54,7 @@ impl Table {
         }
     }
 
-    /// Returns how many of the first columns form the key: 1 to 4.
+    /// Returns how many leading columns form the key: 1 to 4.
     pub fn key_columns(self) -> usize
         ensures { result ≡ (shape self).key }
     {
@@ -66,7 +66,7 @@ impl Table {
         }
     }
 
-    /// Returns whether rows of the table may also be changed or removed, not only added.
+    /// Returns whether rows of the table may be changed or removed, not just added.
     pub fn changes_rows(self) -> bool
         ensures { result ≡ changes_rows self }
     {
@@ -89,7 +89,7 @@ pub enum Reference {
     WardOfBatch,
 }
 
-/// The columns outside the key that can be set on their own, leaving the others as they are.
+/// The columns outside the key that can be set individually, leaving the others unchanged.
 #[derive(Clone, Copy, PartialEq, Eq)]
 pub enum SettableColumn {
     /// The version of the office.

@@ -179,7 +179,7 @@ pub fn select_rowids_text(table: Table) -> &'static str
 }
 
 #[tactic(auto, unfolding(crate::specs::Texts::select_rowid_text))]
-/// Returns the text that selects the rowid of the row with a key; its parameters are the key's values.
+/// Returns the text that selects the rowid of the row with a given key; its parameters are the key's values.
 pub fn select_rowid_text(table: Table) -> &'static str
     ensures { result.now ≡ select_rowid_text table }
 {
@@ -229,7 +229,7 @@ pub fn select_between_text(table: Table) -> &'static str
 }
 
 #[tactic(auto, unfolding(crate::specs::Texts::update_text))]
-/// Returns the text that replaces the row with a key, with the values of all columns as its parameters.
+/// Returns the text that replaces the row with a given key, with the values of all columns as its parameters.
 pub fn update_text(table: Table) -> &'static str
     requires { changes_rows table ≡ true }
     ensures { result.now ≡ update_text table }
@@ -248,7 +248,8 @@ pub fn update_text(table: Table) -> &'static str
 }
 
 #[tactic(auto, unfolding(crate::specs::Texts::set_text))]
-/// Returns the text that sets one column of the row with a key, with the key and the value as its parameters.
+/// Returns the text that sets one column of the row with a given key; its parameters are the key's values and the new
+/// value.
 pub fn set_text(setting: SettableColumn) -> &'static str
     ensures { result.now ≡ set_text setting }
 {
@@ -261,7 +262,7 @@ pub fn set_text(setting: SettableColumn) -> &'static str
 }
 
 #[tactic(auto, unfolding(crate::specs::Texts::delete_text))]
-/// Returns the text that removes the row with a key; its parameters are the key's values.
+/// Returns the text that removes the row with a given key; its parameters are the key's values.
 pub fn delete_text(table: Table) -> &'static str
     requires { changes_rows table ≡ true }
     ensures { result.now ≡ delete_text table }

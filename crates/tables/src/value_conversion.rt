@@ -52,7 +52,8 @@ pub fn bytes(b: &[u8]) -> ValueRef<'_>
     ValueRef::Blob(b)
 }
 
-/// Returns the values of a row that begins with these numbers, followed by the others; `Memory` if an allocation fails.
+/// Returns the values of a row that begins with the given numbers, followed by the other values. Returns `Memory` if an
+/// allocation fails.
 pub fn row_values<'a>(
     alloc: Global,
     numbers: &[u32],
@@ -73,7 +74,7 @@ pub fn row_values<'a>(
     Ok(values)
 }
 
-/// Returns the fault for a value that couldn't be read: `Memory` if out of memory, otherwise `Damaged`.
+/// Returns the fault for a value that couldn't be read: `Memory` if an allocation failed, otherwise `Damaged`.
 fn value_fault(e: Error) -> Fault
     ensures { result ≡ value_fault e }
 {
@@ -83,7 +84,7 @@ fn value_fault(e: Error) -> Fault
     }
 }
 
-/// Returns the number below 2^32 in a column; `Damaged` if the value isn't one.
+/// Returns the number below 2^32 in a column. Returns `Damaged` if the value isn't one.
 pub fn number_at(row: &Row, place: usize) -> Result<u32, Fault>
     ensures number { IfOk result (λ n. column row.now place ≡ Number (pos n)) }
     ensures cause { IfErr result (λ f. (f ≡ Fault.Memory) ⊎ ((f ≡ Fault.Damaged) × ¬ IsNumber (column row.now place))) }
@@ -91,7 +92,7 @@ pub fn number_at(row: &Row, place: usize) -> Result<u32, Fault>
     row.get::<u32>(place).map_err(value_fault)
 }
 
-/// Returns the number in a column; `Damaged` if the value isn't a number or is negative.
+/// Returns the number in a column. Returns `Damaged` if the value isn't a number or is negative.
 pub fn amount_at(row: &Row, place: usize) -> Result<u64, Fault>
     ensures amount { IfOk result (λ n. column row.now place ≡ Number (pos n)) }
     ensures cause { IfErr result (λ f. (f ≡ Fault.Memory) ⊎ ((f ≡ Fault.Damaged) × ¬ IsAmount (column row.now place))) }
@@ -99,7 +100,7 @@ pub fn amount_at(row: &Row, place: usize) -> Result<u64, Fault>
     row.get::<u64>(place).map_err(value_fault)
 }
 
-/// Returns the integer in a column; `Damaged` if the value isn't one.
+/// Returns the integer in a column. Returns `Damaged` if the value isn't one.
 pub fn integer_at(row: &Row, place: usize) -> Result<i64, Fault>
     ensures integer { IfOk result (λ n. column row.now place ≡ Number n) }
     ensures cause { IfErr result (λ f. (f ≡ Fault.Memory) ⊎ ((f ≡ Fault.Damaged) × ((n : _) → column row.now place ≢ Number n))) }
@@ -107,7 +108,7 @@ pub fn integer_at(row: &Row, place: usize) -> Result<i64, Fault>
     row.get::<i64>(place).map_err(value_fault)
 }
 
-/// Returns the text in a column; `Damaged` if the value isn't a text, or isn't UTF-8.
+/// Returns the text in a column. Returns `Damaged` if the value isn't text, or isn't UTF-8.
 pub fn text_at(row: &Row, place: usize) -> Result<String, Fault>
     ensures text { IfOk result (λ s. column row.now place ≡ Words (string_bytes s)) }
     ensures cause { IfErr result (λ f. (f ≡ Fault.Memory) ⊎ ((f ≡ Fault.Damaged) × ¬ IsText (column row.now place))) }
@@ -115,7 +116,7 @@ pub fn text_at(row: &Row, place: usize) -> Result<String, Fault>
     row.get::<String>(place).map_err(value_fault)
 }
 
-/// Returns the bytes in a column; `Damaged` if the value isn't bytes, even if it is a text.
+/// Returns the bytes in a column. Returns `Damaged` if the value isn't bytes, even if it is text.
 pub fn bytes_at(row: &Row, place: usize) -> Result<Vec<u8>, Fault>
     ensures bytes { IfOk result (λ b. column row.now place ≡ Bytes b.items) }
     ensures cause { IfErr result (λ f. (f ≡ Fault.Memory) ⊎ ((f ≡ Fault.Damaged) × ¬ IsBytes (column row.now place))) }

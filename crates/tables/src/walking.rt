@@ -27,10 +27,10 @@ pub trait Visitor<E: Entries> {
     // The visitor has consumed these entries, in this order, and no others.
     ghost HasVisited: { Self → List E.Entry → Type 0 };
 
-    // The faults with which the visitor may stop.
+    // The faults that the visitor may return.
     ghost Stops: { Fault → Type 0 };
 
-    /// Consumes one more entry.
+    /// Consumes another entry.
     fn visit(&mut self, entry: E::Entry) -> Result<(), Fault>
         ensures takes { OnOk result (TakesNext HasVisited self.old self.new entry) }
         ensures cause { IfErr result Stops };
@@ -57,7 +57,7 @@ fn visit_next<E: Entries, V: Visitor<E>, S: Alter>(
     Ok(true)
 }
 
-/// Passes the entries of all remaining rows to the visitor; `Memory` also if there are more than 2^64 - 2.
+/// Passes the entries of all remaining rows to the visitor. Also returns `Memory` if there are more than 2^64 - 2.
 fn visit_rest<E: Entries, V: Visitor<E>, S: Alter>(
     rows: &mut Rows<'_, S>,
     visitor: &mut V,
@@ -82,11 +82,11 @@ fn visit_rest<E: Entries, V: Visitor<E>, S: Alter>(
     Err(Fault::Memory)
 }
 
-/// Passes the entries whose key begins with these values to the visitor, one at a time, in key order, and returns the
-/// visitor. Only the rows that were read ahead are held in memory.
+/// Passes the entries whose key begins with the given values to the visitor, one at a time, in key order, and returns
+/// the visitor. Only rows that have been read ahead are held in memory.
 ///
-/// A fault of the visitor ends the walk. Returns `Damaged` if a row doesn't represent an entry, and `Memory` also if there
-/// are more than 2^64 - 2 rows. In these cases the visitor is dropped, and the tables are unchanged.
+/// A fault from the visitor ends the walk. Returns `Damaged` if a row doesn't represent an entry; also returns `Memory`
+/// if there are more than 2^64 - 2 rows. In these cases the visitor is dropped, and the tables are unchanged.
 pub fn walk_beginning<E: Entries, V: Visitor<E> + Drop, S: Alter>(
     conn: &mut Connection<S>,
     key: &[ValueRef<'_>],

@@ -24,7 +24,7 @@ pub fn add_entry<E: Entries, S: Alter>(
     insert(tx, E::TABLE, &values)
 }
 
-/// Inserts the rows of entries, each as `add_entry` does. After a fault, the last commit is unchanged.
+/// Inserts the rows of the given entries, each as `add_entry` does. After a fault, the last commit is unchanged.
 pub fn add_entries<E: Entries, S: Alter>(
     alloc: Global,
     tx: &mut Transaction<'_, S>,
@@ -38,8 +38,8 @@ pub fn add_entries<E: Entries, S: Alter>(
     Ok(())
 }
 
-/// Inserts the rows of entries into their table, and then those of other entries into theirs. After a fault, the last commit
-/// is unchanged.
+/// Inserts the rows of entries of one table, then those of entries of another. After a fault, the last commit is
+/// unchanged.
 pub fn add_both<E: Entries, F: Entries, S: Alter>(
     alloc: Global,
     tx: &mut Transaction<'_, S>,
@@ -52,8 +52,8 @@ pub fn add_both<E: Entries, F: Entries, S: Alter>(
     add_entries::<F, S>(alloc, tx, others)
 }
 
-/// Updates the row with an entry's key to the entry's row; if there is no such row, nothing changes. After a fault, the last
-/// commit is unchanged.
+/// Updates the row with the entry's key to the entry's row; if there is no such row, nothing changes. After a fault,
+/// the last commit is unchanged.
 pub fn replace_entry<E: Entries, S: Alter>(
     alloc: Global,
     tx: &mut Transaction<'_, S>,
@@ -66,8 +66,8 @@ pub fn replace_entry<E: Entries, S: Alter>(
     replace(tx, E::TABLE, &values)
 }
 
-/// Updates the rows with the keys of entries, one after another, each as `replace_entry` does. After a fault, the last commit
-/// is unchanged.
+/// Updates the rows with the given entries' keys, one after another, each as `replace_entry` does. After a fault, the
+/// last commit is unchanged.
 pub fn replace_entries<E: Entries, S: Alter>(
     alloc: Global,
     tx: &mut Transaction<'_, S>,

@@ -4,8 +4,8 @@ use Rattle.std.proofs.lemmas.List.Sums.{sum_by-cons}
 use Rattle.std.proofs.Math.Nat.{div-mul-le_self, le_of_mul-le-mul_right, mul-le-mul_left}
 use Rattle.votes.specs.Units.{cut, GivesWithin}
 
--- the sum of the values transferred, times the votes credited, is at most the surplus times the sum of the
--- values received
+-- the sum of the transferred values, multiplied by the votes credited, is at most the surplus multiplied by the
+-- sum of the received values
 cuts_times : (surplus credited : ℕ) (values : List ℕ) → sum_by (λ v. cut surplus v credited) values * credited ≤ surplus * sum values
 cuts_times surplus credited [] = omega arith
 cuts_times surplus credited (v ∷ values) =

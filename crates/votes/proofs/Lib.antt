@@ -1,4 +1,4 @@
--- The lemmas, by subject.
+-- The lemmas, grouped by subject.
 pub mod Quotas
 pub mod Cuts
 pub mod Texts

@@ -10,7 +10,7 @@ use Rattle.votes.specs.Text.{last_digit, fraction_text, votes_text, TellsUnits}
 one_digit : (n : ℕ) (more : List ℕ) → decimal (n % 10) ++ more ≡ last_digit n ∷ more
 one_digit n more = ap (λ l. l ++ more) (decimal_digit (n % 10) (omega arith))
 
--- five numbers less than ten, printed in order, are the five digits
+-- printing the five digits one by one yields the text of the votes
 pub votes_text-printed : (u : ℕ) →
     decimal (u / one_vote) ++ (46 ∷ (decimal (u / 10000 % 10) ++ (decimal (u / 1000 % 10) ++ (decimal (u / 100 % 10) ++ (decimal (u / 10 % 10) ++ decimal (u % 10)))))) ≡ votes_text u
 votes_text-printed u =
@@ -27,7 +27,7 @@ digit_value-last_digit : (n : ℕ) → digit_value (last_digit n) ≡ n % 10
 digit_value-last_digit n =
     cond-false _ _ _ (le-ltb (48 + n % 10) 48 (omega arith)) ∙ cond-true _ _ _ (lt-ltb (48 + n % 10) 58 (omega arith)) ∙ omega arith
 
--- a tenth of a number, with the last digit appended, is the number
+-- appending a number's last digit to a tenth of the number, rounded down, yields the number
 next_digit : (tenth n : ℕ) → tenth ≡ n / 10 → tenth * 10 + digit_value (last_digit n) ≡ n
 next_digit tenth n is = omega (arith, is, digit_value-last_digit n)
 

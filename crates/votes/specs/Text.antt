@@ -6,7 +6,7 @@ use Rattle.std.specs.Str.Parse.{digits_value}
 abbrev pub last_digit : ℕ → ℕ
 last_digit n = 48 + n % 10
 
--- a decimal point, and five digits for the units below a whole vote
+-- a decimal point and five digits, for the fraction of a vote
 abbrev pub fraction_text : ℕ → List ℕ
 fraction_text units =
     46 ∷ last_digit (units / 10000) ∷ last_digit (units / 1000) ∷ last_digit (units / 100) ∷ last_digit (units / 10) ∷ last_digit units ∷ []

@@ -1,8 +1,8 @@
 //! Numbers of votes, exact to a hundred-thousandth of a vote.
 //!
 //! [`Votes`] is a number of units; one vote is [`ONE_VOTE`] units. [`quota`] and [`transfer_value`] are the two divisions in
-//! a count by the single transferable vote. Both round down, and their clauses state exactly how. The text of votes is
-//! written to a [`Sink`] from `streams`, whose types are re-exported here under their original names.
+//! a count by the single transferable vote. Both round down, and their clauses state exactly how. Votes are written as text
+//! to a [`Sink`] from `streams`, whose types are re-exported here under their original names.
 //!
 //! ```text
 //! let quota = quota(9, 2);                                    // prints 4.00000

@@ -33,7 +33,7 @@ impl Model for Votes {
 }
 
 impl Votes {
-    /// Returns the votes for a number of units.
+    /// Returns the votes equal to the given number of units.
     pub fn from_units(units: u64) -> Votes
         ensures { result ≡ units }
     {
@@ -47,10 +47,10 @@ impl Votes {
         self.0
     }
 
-    /// Writes the whole votes without leading zeros, a decimal point, and five digits.
+    /// Writes the whole votes without leading zeros, then a decimal point and five digits.
     ///
-    /// Allocates nothing. Returns `Broken` only if the sink does; the sink has then accepted a prefix of the text and counted one
-    /// more failure.
+    /// Allocates nothing. Returns `Broken` only if the sink does; the sink has then accepted a prefix of the text, and its count
+    /// of failures is one higher.
     #[tactic(auto, using(streams::proofs::Beginnings::beginnings))]
     pub fn write<W: Sink>(self, sink: &mut W) -> Result<(), Broken>
         requires { W.failed sink.old < 2 ^ 64 - 1 }
@@ -68,7 +68,7 @@ impl Votes {
     }
 }
 
-/// Returns the decimal point and the five digits after it, for a number of units.
+/// Returns the decimal point and the five digits after it, for the given number of units.
 fn fraction(units: u64) -> [u8; 6]
     ensures { result ≡ fraction_text units }
 {
@@ -99,7 +99,7 @@ impl fmt::Display for Votes {
     }
 }
 
-/// Returns the quota ("Quota"): the smallest whole number of votes that can't be reached by more candidates than there are seats.
+/// Returns the quota ("Quota"): the smallest whole number of votes that more candidates than there are seats can't all reach.
 ///
 /// `valid` is the number of valid ballot papers, at most `MAX_PAPERS`, and `seats` is from 1 to `MAX_SEATS`.
 pub fn quota(valid: u32, seats: u8) -> Votes
@@ -113,8 +113,8 @@ pub fn quota(valid: u32, seats: u8) -> Votes
     Votes(whole * ONE_VOTE)
 }
 
-/// Returns the value at which a paper is transferred with a surplus ("Transfer values"): the surplus times the value at which the
-/// paper was received, divided by the votes credited to its holder, rounded down to whole units.
+/// Returns the value at which a paper is transferred with a surplus ("Transfer values"): the surplus multiplied by the value at
+/// which the paper was received, divided by the votes credited to its holder, rounded down to whole units.
 ///
 /// `received` is at most one vote, `credited` is at most one vote for each of `MAX_PAPERS` papers, and `surplus` is more than 0
 /// and less than `credited`.

@@ -29,7 +29,7 @@ prefix-digits (x ∷ xs) = by (is_ascii_digit x) refl (prefix-digits xs)
         subst (λ n. list_all is_ascii_digit (take n (x ∷ xs)) ≡ true) one (rw is rest)
     by false is rest = refl
 
--- the digits at the start of some bytes are valid text
+-- the digits at the start of a list of bytes are valid text
 pub digits-text : (behind : List ℕ) → IsUtf8 (take (prefix_len is_ascii_digit behind) behind)
 digits-text behind =
     digits-utf8 (take (prefix_len is_ascii_digit behind) behind) (prefix-digits behind)

@@ -11,7 +11,7 @@ use Rattle.std.proofs.lemmas.Slice.{take-put_mid}
 use Rattle.wire.specs.Requests.{HasRead}
 use Rattle.wire.specs.Bodies.{body_in}
 
--- a buffer whose end was filled, put back into its `Vec`
+-- a buffer whose end was filled, returned to its `Vec`
 pub back_filled : (items buf front_bytes room : List ℕ) (front size len : ℕ) → len ≡ size → length buf ≡ size → front + length room ≡ size → take front buf ≡ front_bytes
     → take len (put_mid front (length buf - front) buf room ++ drop (length (put_mid front (length buf - front) buf room)) items) ≡ front_bytes ++ room
 back_filled items buf front_bytes room front size len there full fits is =
@@ -20,7 +20,7 @@ back_filled items buf front_bytes room front size len there full fits is =
     omega (arith, ap length whole, length-take len (put_mid front (length buf - front) buf room), length-append (take front buf) room, length-take-le front buf (omega arith)) in
     take-append-le len (put_mid front (length buf - front) buf room) _ long ∙ whole ∙ ap (λ s. s ++ room) is
 
--- the lesser of two numbers is one of them
+-- the smaller of two numbers is one of them
 pub one_of_min : (a b m : ℕ) → m ≡ min a b → (m ≡ a) ⊎ (m ≡ b)
 one_of_min a b m is = by_order (cases_lt a b)
   where
@@ -56,7 +56,7 @@ enough body others size is =
     let own : take size (body ++ others) ≡ body = ap (λ n. take n (body ++ others)) (sym is) ∙ take-append_seam body others in
     rw (le-leb size (length (body ++ others)) fits, own) refl
 
--- the bytes after the head are the body followed by others; the body consists of the bytes that were read with the head, as far as they go, and of those in the buffer
+-- the bytes after the head are the body followed by others; the body consists of the bytes read along with the head, as far as they belong to it, and of those in the buffer
 follows : (behind room left rest : List ℕ) (front size : ℕ) → front ≤ length behind → front + length room ≡ size → (front ≡ length behind) ⊎ (front ≡ size) → left ≡ room ++ rest
     → (others : List ℕ) × (behind ++ left ≡ (take front behind ++ room) ++ others)
 follows behind room left rest front size within is (inl all) e = (

@@ -55,7 +55,7 @@ digit_at [] i there all = absurd (omega arith)
 digit_at (d ∷ ds) zero there all = is_digit d (and_parts (is_ascii_digit d) (list_all is_ascii_digit ds) all).0
 digit_at (d ∷ ds) (suc i) there all = digit_at ds i (omega arith) (and_parts (is_ascii_digit d) (list_all is_ascii_digit ds) all).1
 
--- the value after one more digit, capped
+-- the capped value after another digit
 pub value_more : (ds : List ℕ) (i value most digit : ℕ) → i < length ds → list_all is_ascii_digit ds ≡ true → digit ≡ get_or ds i 0 → value ≡ min (digits_value 10 (take i ds)) most
     → min (10 * value + (digit - 48)) most ≡ min (digits_value 10 (take (i + 1) ds)) most
 value_more ds i value most digit there all is so_far =

@@ -6,7 +6,7 @@ use Rattle.serde_json.specs.Data.{Data, Members, member, no_members}
 use Rattle.serde_json.specs.Find.{as_str}
 use Rattle.wire.specs.ConsoleOrders.{ConsoleFileEntry, files_of}
 
--- of the members of an object, these were read as files, and the others haven't been read yet
+-- some of an object's members have been read, as the given files, and the others haven't been read yet
 abbrev pub AreReadOf : Members → List ConsoleFileEntry → Members → Type 0
 AreReadOf all files rest = files_of all ≡ option_map (λ more. files ++ more) (files_of rest)
 
@@ -23,7 +23,7 @@ with_more : (files : List ConsoleFileEntry) (file : ConsoleFileEntry) (o : Optio
 with_more files file None = refl
 with_more files file (Some more) = ap Some (sym (append_assoc files (file ∷ []) more))
 
--- one more file
+-- another file
 pub AreReadOf-more : (all : Members) (files : List ConsoleFileEntry) (name text : List ℕ) (value : Data) (rest : Members) → AreReadOf all files (member name value rest) → as_str value ≡ Some text
     → AreReadOf all (files ++ record { name = name; text = text } ∷ []) rest
 AreReadOf-more all files name text value rest reads is = reads ∙ rw is (with_more files (record { name = name; text = text }) (files_of rest))

@@ -1,4 +1,4 @@
--- Which account's code is carried by a request that, at a gate, asks for something under a clerk's number or on the console.
+-- Which account's code a request carries if, at a gate, it asks for something under a clerk's number or on the console.
 use Rattle.std.proofs.Common.{◌≡◌, ◌∙◌, ◌&&◌, Bool, true, false, List, [], ◌∷◌, ◌++◌, Option, Some, None, Result, Ok, Err, ap, arith, codes, inr, length, map, not, refl, subst, sym, ℕ}
 use Rattle.std.specs.Prelude.{bytes_eq, if◌then◌else◌, is_some, option_and_then, option_map, slice_index}
 use Rattle.std.specs.Char.{is_ascii_digit}
@@ -114,7 +114,7 @@ holds gate account fields (value ∷ []) sent none = by (has_code gate account v
         let no : ⊥ = cc in
         absurd no
 
--- what needs an account's code is requested at a target that belongs to that account
+-- anything that requires an account's code is requested at a target that belongs to that account
 keying-own : (c batch : ℕ) (entry : Option KeyingEntry) (account : Account) → account_asked (asked_in c batch entry) ≡ Some account → Clerk c ≡ account
 keying-own c batch None account is = let no : ⊥ = cc in absurd no
 keying-own c batch (Some entry) account is = cc
@@ -178,7 +178,7 @@ module _ (gate : GateEntry) (hall : Option PublicEntry) (fields : List NamedValu
   wanted-held true is = let no : ⊥ = cc in absurd no
   wanted-held false is = let_in-held (authentication_failure (Some gate) (account_at (Some gate) target) fields) refl is
 
--- whatever needs an account's code is requested by the holder of that code
+-- anything that requires an account's code is requested by the holder of that code
 pub AsksByHolder-all : (settings : HttpSettingsEntry) (bytes : List ℕ) → AsksByHolder settings bytes
 AsksByHolder-all settings bytes head behind begins asked asks account is gate there =
     let fields = map name_and_value head.fields in

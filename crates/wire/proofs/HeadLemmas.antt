@@ -1,4 +1,4 @@
--- What the iterations of the loop that reads a head add up to, and that there is only one head.
+-- What all iterations of the loop that reads a head achieve together, and that there is only one head.
 use Rattle.std.proofs.Common.{◌≡◌, ◌∙◌, ◌≤◌, ◌+◌, ℕ, List, Option, Some, None, [], ◌∷◌, ◌++◌, length, take, drop, refl, sym, ap, arith, append_assoc}
 use Rattle.std.specs.Prelude.{IfSome}
 use Rattle.std.specs.Io.KnownBytes.{Consumes, IsAtEnd}
@@ -19,7 +19,7 @@ front_more buf room filled n k fits few =
     let step = take-append-add (take filled buf) (room ++ post_of filled k buf) n in
     (rw len at step) ∙ ap (λ xs. take filled buf ++ xs) (take-append-le n room (post_of filled k buf) few)
 
--- bytes that were consumed, followed by those that were consumed next
+-- the bytes that were consumed first, followed by those consumed next
 pub Consumes-more : (old mid new : Option (List ℕ)) (buf room : List ℕ) (filled n k : ℕ) → filled ≤ length buf → n ≤ length room
     → Consumes old mid (take filled buf) → Consumes mid new (take n room) → Consumes old new (take (filled + n) (put_mid filled k buf room))
 Consumes-more None mid new buf room filled n k fits few a b = tt
@@ -34,7 +34,7 @@ Consumes-more (Some xs) (Some ys) (Some zs) buf room filled n k fits few a b =
 parted : (xs got ys front behind : List ℕ) → xs ≡ got ++ ys → xs ≡ front ++ behind → got ++ ys ≡ front ++ behind
 parted xs got ys front behind a b = sym a ∙ b
 
--- whatever follows what was read, the head has too many headers
+-- the head has too many headers, whatever follows the bytes read so far
 pub no_head-overflows : (old new : Option (List ℕ)) (got : List ℕ) → Consumes old new got → RequestOverflows 32 got → IfSome old HasNoHead
 no_head-overflows None new got took over = tt
 no_head-overflows (Some xs) None got took over = absurd took

@@ -1,4 +1,4 @@
--- The values of all headers of one name.
+-- The values of all headers with a given name.
 use Rattle.std.proofs.Common.{◌≡◌, ◌∙◌, ◌<◌, true, ℕ, List, ◌∷◌, ◌++◌, length, get_or, drop, filter, map, suc, sym, ap, refl, take, arith}
 use Rattle.std.specs.Prelude.{Option, Some, None, is_some}
 use Rattle.std.specs.Borrow.{Bor}
@@ -15,7 +15,7 @@ values_of-append name xs ys =
     let test = λ (f : NamedValue). str_eq_ignore_ascii_case f.0 name in
     ap (map (λ (f : NamedValue). f.1)) (filter-append test xs ys) ∙ map-append (λ (f : NamedValue). f.1) (filter test xs) (filter test ys)
 
--- another header of the same name after the one that was found
+-- another header with the same name follows the one that was found
 pub several : (name buffer own_name : List ℕ) (headers : List HeaderSpan) (i : ℕ) (other : HeaderSpan) (found : Option (Bor (List ℕ))) → i < length headers
     → own_name ≡ (header_bytes buffer (get_or headers i other)).0 → true ≡ str_eq_ignore_ascii_case own_name name → true ≡ is_some found
     → values_of name (map (header_bytes buffer) (take i headers)) ≡ value_listed found → 1 < length (values_of name (map (header_bytes buffer) headers))

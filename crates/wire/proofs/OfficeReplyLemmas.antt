@@ -1,4 +1,4 @@
--- The values that the console reads contain no floats.
+-- The JSON values that the console reads contain no floats.
 use Rattle.std.proofs.Common.{◌≡◌, false, ℕ, List, map, refl}
 use Rattle.std.specs.Prelude.{[], unwrap_or}
 use Rattle.serde_json.specs.Written.{has_float}

@@ -1,4 +1,4 @@
--- A target of one of the console's reads names exactly the read whose path it is.
+-- The target of a console read names exactly the read whose path it is.
 use Rattle.std.proofs.Common.{◌≡◌, ◌∙◌, ◌-◌, ◌==◌, ◌&&◌, ◌∷◌, ◌++◌, ℕ, Bool, true, false, List, [], Option, Some, None, ap, arith, codes, drop, length, not, refl, subst, sym, take}
 use Rattle.std.specs.Prelude.{bytes_eq, if◌then◌else◌, nat_eq, nat_le, option_map}
 use Rattle.std.specs.Char.{is_ascii_digit}
@@ -50,7 +50,7 @@ module _ (part rest : List ℕ) (n : ℕ) (own : number_in part ≡ Some n) (non
 
 -- ---- what is read, by the first word of the target that matches
 
--- what follows the first n bytes
+-- what follows the first n bytes of a target
 tail-of : (n : ℕ) (target : List ℕ) → take (length target - n) (drop n target) ≡ drop n target
 tail-of n target = take_all (length target - n) (drop n target) (omega (arith, length-drop n target))
 
@@ -84,7 +84,7 @@ read-named target (Receipts (Some actor)) (part, is, own) = ap named_by is ∙ r
 
 -- ---- and no other target does
 
--- what a comparison with a text shows: the target is this text, and names this read
+-- what a successful comparison with a text shows: the target is this text, and names this read
 same-text : (text word target : List ℕ) (one read : OfficeRead) → (text ≡ word → IsReadTarget one target) → bytes_eq text word ≡ true → Some one ≡ Some read → IsReadTarget read target
 same-text text word target one read own same named =
     let is : one ≡ read = cc in
@@ -128,7 +128,7 @@ module _ (target part rest : List ℕ) (n : ℕ) (read : OfficeRead) (own : numb
       differences true same named = same-text rest (codes "/differences") target (Differences n) read (λ e. (part, at (codes "/differences") e, own)) same named
       differences false other named = papers (bytes_eq rest (codes "/papers")) refl named
 
--- after the prefix that all targets of a kind share
+-- after the prefix that all targets of one kind share
 module _ (target behind : List ℕ) (read : OfficeRead) where
   abbrev digits : ℕ
   digits = prefix_len is_ascii_digit behind
@@ -162,7 +162,7 @@ module _ (target behind : List ℕ) (read : OfficeRead) where
       let same : Receipts (Some n) ≡ read = cc in
       subst (λ r. IsReadTarget r target) same (behind, is, found)
 
--- a target that begins with a word is that word and the rest
+-- a target that begins with a word is that word followed by the rest
 pub begun : (target word : List ℕ) → starts_with nat_eq target word ≡ true → target ≡ word ++ drop (length word) target
 begun target word begins = (starts_is Decides-eqb target word (starts_with nat_eq target word) refl).0 begins
 

@@ -1,4 +1,4 @@
--- A keying has one outcome. It depends only on the batch, the round and the texts that the command contains.
+-- A keying has exactly one outcome, which depends only on the batch, the round and the texts in the command.
 use Rattle.std.proofs.Common.{◌≡◌, ◌∙◌, ℕ, List, Option, Some, None, ap, if◌then◌else◌, map, refl, string_bytes, sym}
 use Rattle.register.specs.Keyings.{objections, part_of, reply_to, subject_of}
 use Rattle.register.specs.Machine.{answered, decided, judged, outcome_at, refuses, step, step_of}
@@ -47,7 +47,7 @@ step-same s clerk id one other same =
     (answered-same clerk id (part_of s clerk one) one other same (receipt_at s clerk id)
     ∙ ap (answered clerk id (command.Keying other) (receipt_at s clerk id)) (part-same s clerk one other same))
 
--- the request by which a keying is sent on has the outcome of the keying
+-- the request that forwards a keying has the outcome of the keying
 pub IsOutcome-handed : (s : OfficeState) (clerk batch : ℕ) (entry : KeyingEntry) (request : Request) → IsHandedOn clerk batch entry request → IsOutcome s clerk batch entry (step_of s request)
 IsOutcome-handed s clerk batch entry request is = record {
   request = request;

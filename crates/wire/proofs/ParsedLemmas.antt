@@ -1,4 +1,4 @@
--- What a request lacks, what it asks for, and under whose number, judged from its parsed head.
+-- What a request lacks, what it asks for, and under whose number, as its parsed head shows.
 use Rattle.std.proofs.Common.{◌≡◌, ◌∙◌, ◌<◌, ◌≤◌, ◌+◌, ◌-◌, ℕ, List, Option, None, Result, Ok, Err, [], ◌++◌, Some}
 use Rattle.std.proofs.Common.{inl, inr, append_assoc, ap, arith, drop, length, map, min, option_map, refl, subst, sym, take}
 use Rattle.std.proofs.Math.Seq.{drop-append_seam}
@@ -60,7 +60,7 @@ grown got more found behind begun = record {
   few = begun.few;
 }
 
--- so the head stays parsed
+-- the head stays parsed
 pub head_lasts : (settings : HttpSettingsEntry) (got : List ℕ) (head : Head) → IsHeadOf settings got head → (more : List ℕ) → IsHeadOf settings (got ++ more) head
 head_lasts settings got head is more = record { found = is.found; behind = is.behind ++ more; begins = grown got more is.found is.behind is.begins; says = is.says }
 
@@ -78,7 +78,7 @@ body_stays n behind more enough =
       | inr le ↦ rw (le-leb n (length (behind ++ more)) (omega (arith, le, length-append behind more)), le-leb n (length behind) le, take-append-le n behind more le) refl
     ]
 
--- what is requested at a target, if no bytes are lacking for it
+-- what is requested at a target stays the same once no bytes are missing
 asked_stays : (gate : Option GateEntry) (hall : Option PublicEntry) (t : Result Target RequestError) (size : Result ℕ RequestError) (behind more : List ℕ) → (MissesBytes t size behind → ⊥)
     → asked_of gate hall t size (behind ++ more) ≡ asked_of gate hall t size behind
 asked_stays gate hall (Ok (target.Keying clerk batch)) (Ok n) behind more enough = ap (λ b. asked_in clerk batch (option_and_then keying_of b)) (body_stays n behind more enough)
@@ -93,7 +93,7 @@ asked_stays gate hall (Ok (target.Office office.Orders)) (Err why) behind more e
 asked_stays gate hall (Ok (target.Public what)) size behind more enough = refl
 asked_stays gate hall (Err why) size behind more enough = refl
 
--- a request that begins with a head, and lacks no bytes after it
+-- a request that begins with a head and lacks no bytes after it
 whole_behind : (settings : HttpSettingsEntry) (got : List ℕ) (head : RequestHead) (behind : List ℕ) → BeginsWith got head behind → (MissesBehind settings head behind → ⊥) → IsWhole settings got
 whole_behind settings got head behind begun enough more asked asks =
     let one : asked ≡ asked_by settings head behind = AsksOneThing-all settings got asked (asked_by settings head behind) asks (inr (head, behind, begun, refl)) in
@@ -109,7 +109,7 @@ whole_behind settings got head behind begun enough more asked asks =
       one ∙ sym (asked_stays settings.gate settings.public _ _ behind more enough),
     )
 
--- ---- what is lacking
+-- ---- what is missing
 
 -- fewer bytes than are needed don't determine what is requested
 few_incomplete : (t : Result Target RequestError) (body : Result ℕ RequestError) (behind : List ℕ) → length behind < needed t body → MissesBytes t body behind
@@ -138,7 +138,7 @@ enough_complete (Ok (target.Office office.Orders)) (Err why) behind enough compl
 enough_complete (Ok (target.Public what)) body behind enough completeness_of = completeness_of
 enough_complete (Err why) body behind enough completeness_of = completeness_of
 
--- what a parsed head lacks, the head lacks
+-- the head lacks whatever the parsed head lacks
 MissesBehind-parsed : (settings : HttpSettingsEntry) (got : List ℕ) (head : Head) (is : IsHeadOf settings got head) (behind : List ℕ)
     → MissesBytes head.wanted head.body behind → MissesBehind settings is.found behind
 MissesBehind-parsed settings got head is behind completeness_of =
@@ -151,7 +151,7 @@ MissesBehind-back settings got head is behind completeness_of =
     subst (λ (t : Result Target RequestError). MissesBytes t head.body behind) (sym is.says.wanted)
     (subst (λ b. MissesBytes (wanted settings (map name_and_value is.found.fields) is.found.method is.found.target) b behind) (sym is.says.body) completeness_of)
 
--- with fewer bytes than the head needs
+-- there are fewer bytes than the head needs
 wanting_parsed : (settings : HttpSettingsEntry) (got more : List ℕ) (head : Head) → IsHeadOf settings got head → length (got ++ more) < head.size + needed head.wanted head.body
     → IsIncomplete settings (got ++ more)
 wanting_parsed settings got more head is few =
@@ -194,13 +194,13 @@ whole_is settings got head whole is small = omega (arith, small, needed_small he
 pub body_fits : (settings : HttpSettingsEntry) (got : List ℕ) (head : Head) (n : ℕ) → IsHeadOf settings got head → head.body ≡ Ok n → n ≤ most_body_bytes
 body_fits settings got head n is own = subst (λ (b : Result ℕ RequestError). IfOk b (λ n. n ≤ most_body_bytes)) own is.says.fits
 
--- with enough bytes
+-- there are enough bytes
 pub whole_parsed : (settings : HttpSettingsEntry) (got : List ℕ) (head : Head) → IsHeadOf settings got head → head.size + needed head.wanted head.body ≤ length got → IsWhole settings got
 whole_parsed settings got head is enough =
     whole_behind settings got is.found is.behind is.begins
     (λ completeness_of. enough_complete head.wanted head.body is.behind (omega (arith, enough, parts_of settings got head is)) (MissesBehind-back settings got head is is.behind completeness_of))
 
--- no complete head has arrived yet, and one still may
+-- no complete head has arrived yet, but one still may
 pub lacks_head : (settings : HttpSettingsEntry) (got : List ℕ) → IsHeadIncomplete got → IsCompletenessOf settings got (AtLeast (length got + 1))
 lacks_head settings got may = (
   inl may,
@@ -231,7 +231,7 @@ never_full front back full none more head behind begun =
 pub none_full : (got : List ℕ) (n : ℕ) → length (take n got) ≡ 8192 → HasNoRequest (take n got) → (more : List ℕ) → HasNoHead (got ++ more)
 none_full got n full none more = subst (λ (xs : List ℕ). HasNoHead (xs ++ more)) (take-append-drop n got) (never_full (take n got) (drop n got) full none more)
 
--- the start belongs to no head, or to one with too many headers
+-- if there is a head, it has too many headers
 never_over : (front back : List ℕ) (room : ℕ) → room ≡ 32 → RequestOverflows room front → (more : List ℕ) → HasNoHead ((front ++ back) ++ more)
 never_over front back room is over more head behind begun =
     let many = over (back ++ more) head behind (begun.is_head, sym (append_assoc front back more) ∙ begun.parts) in
@@ -248,11 +248,11 @@ none_yet got n all short none may =
     let none_there : HasNoRequest got = subst HasNoRequest same none in
     record { none = λ head behind begun. none_there head behind (begun.is_head, begun.parts); may = subst MayBecomeRequest same may; short = short }
 
--- no head will come, and whatever follows doesn't change that
+-- if no head can come, that remains so whatever follows
 pub never_lasts : (got : List ℕ) → ((more : List ℕ) → HasNoHead (got ++ more)) → (more later : List ℕ) → HasNoHead ((got ++ more) ++ later)
 never_lasts got never more later = subst HasNoHead (sym (append_assoc got more later)) (never (more ++ later))
 
--- no head has arrived if none can come
+-- if no head can come, none has arrived
 pub none_came : (got : List ℕ) → ((more : List ℕ) → HasNoHead (got ++ more)) → HasNoHead got
 none_came got never = subst HasNoHead (append-nil got) (never [])
 
@@ -271,7 +271,7 @@ asks_behind settings got head is asked same = inr (
       ∙ ap (λ b. asked_of settings.gate settings.public (wanted settings (map name_and_value is.found.fields) is.found.method is.found.target) b is.behind) is.says.body,
 )
 
--- given the bytes that follow the head
+-- what is requested, given the bytes after the head
 pub asks_parsed : (settings : HttpSettingsEntry) (got : List ℕ) (head : Head) (n : ℕ) (behind : List ℕ) (asked : HttpRequestEntry) → n ≡ min head.size (length got)
     → behind ≡ drop n got → IsHeadOf settings got head
     → asked ≡ asked_of settings.gate settings.public head.wanted head.body behind → Asks settings got asked
@@ -281,7 +281,7 @@ asks_parsed settings got head n behind asked small there is same =
     let own : behind ≡ is.behind = there ∙ ap (λ k. drop k got) all ∙ ap (drop (length (print_request is.found))) is.begins.parts ∙ drop-append_seam (print_request is.found) is.behind in
     asks_behind settings got head is asked (same ∙ ap (asked_of settings.gate settings.public head.wanted head.body) own)
 
--- the same for a result, which may be a failed allocation
+-- what is requested, as a result that may be a failed allocation
 pub asks_result : {E : Type 0} (settings : HttpSettingsEntry) (got : List ℕ) (head : Head) (n : ℕ) (behind : List ℕ) (r : Result HttpRequest E)
     → n ≡ min head.size (length got) → behind ≡ drop n got → IsHeadOf settings got head
     → IfOk r (λ asked. http_request_entry asked ≡ asked_of settings.gate settings.public head.wanted head.body behind) → IfOk r (λ asked. Asks settings got (http_request_entry asked))
@@ -343,7 +343,7 @@ pub reads_none : (settings : HttpSettingsEntry) (got : List ℕ) (what : Resourc
 reads_none settings got what none (inl (also, is)) = cc is
 reads_none settings got what none (inr (head, behind, begun, is)) = none head behind begun
 
--- ---- under whose number it is requested
+-- ---- under whose number something is requested
 
 pub knocks_parsed : (settings : HttpSettingsEntry) (got : List ℕ) (head : Head) → IsHeadOf settings got head → IsAuthentication settings got (option_map authentication_entry head.authentication)
 knocks_parsed settings got head is = record {

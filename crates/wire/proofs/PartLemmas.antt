@@ -18,14 +18,14 @@ use Rattle.wire.specs.Targets.{Taken}
 
 -- ---- what a parameter matches
 
--- a position in a pattern, and one in a path
+-- a position in a pattern, and a position in a path
 abbrev place_at : ℕ → ℕ → ℕ × ℕ
 place_at token at = (token, at)
 
 same-place : (a b c d : ℕ) → a ≡ c → b ≡ d → place_at a b ≡ place_at c d
 same-place a b c d one two = ap (λ x. place_at x b) one ∙ ap (λ y. place_at c y) two
 
--- a name and its value, in front of others
+-- a name and its value, prepended to others
 abbrev pub with_taken : List ℕ → List ℕ → Taken → Taken
 with_taken name part others = (name, part) ∷ others
 
@@ -49,7 +49,7 @@ part-between path before part rest is =
     let there : drop (length before) path ≡ part ++ rest = ap (drop (length before)) is ∙ drop-append_seam before (part ++ rest) in
     rw (low, high, count, there) (take-append_seam part rest)
 
--- a parameter after some bytes matches the text up to the next slash
+-- a parameter after literal bytes matches the text up to the next slash
 pub walk-part : (pattern text path : List ℕ) (name : ℕ × ℕ) (names : List (ℕ × ℕ)) (word t before part rest : List ℕ) (token at : ℕ) → at ≡ length before
     → drop token pattern ≡ word ++ (param_token ∷ t) → list_all (λ x. ltb x param_token) word ≡ true → path ≡ before ++ (word ++ (part ++ (47 ∷ rest))) → HasNoSlash part
     → ((from : ℕ) → wild_stop pattern (token + length word) path from ≡ from + length (segment (drop from path)) - 1)
@@ -71,7 +71,7 @@ walk-part pattern text path name names word t before part rest token at place_is
     ∙ ap (λ p. with_taken (part_of text name.0 name.1) p (walk pattern text path names (after_token (token + length word)) (from + length part)))
     (part-between path (before ++ word) part (47 ∷ rest) parts)
 
--- the value of the parameter of a route with one parameter
+-- the value that the only parameter of a route has
 pub one-taken : (word rest text path part : List ℕ) (name : ℕ × ℕ) → list_all (λ x. ltb x param_token) word ≡ true → path ≡ word ++ (part ++ (47 ∷ rest)) → HasNoSlash part
     → ((from : ℕ) → wild_stop (word ++ (param_token ∷ (47 ∷ rest))) (length word) path from ≡ from + length (segment (drop from path)) - 1)
     → walk (word ++ (param_token ∷ (47 ∷ rest))) text path (name ∷ []) 0 0 ≡ with_taken (part_of text name.0 name.1) part []
@@ -144,7 +144,7 @@ behind-param t path (inl begins) = record { part = param_token ∷ []; rest = be
 behind-param t path (inr (inl (param, begins))) = begins
 behind-param t path (inr (inr catch)) = absurd (omega arith)
 
--- and what follows the whole pattern
+-- what follows the whole pattern
 behind-all : (word path : List ℕ) → list_all (λ x. ltb x param_token) word ≡ true → Fits word path → path ≡ word
 behind-all [] path bytes fits = fits
 behind-all (x ∷ word) path bytes (inl begins) =

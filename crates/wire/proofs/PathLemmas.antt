@@ -1,4 +1,4 @@
--- A target names exactly what it is the path of.
+-- A target names something if and only if the target is its path.
 use Rattle.std.proofs.Common.{◌≡◌, ◌∙◌, ◌-◌, ◌+◌, ℕ, Bool, true, false, List, [], ◌∷◌, ◌++◌, Option, Some, None, append_assoc, codes, drop, length, ltb, refl, subst, sym, ap, arith}
 use Rattle.std.specs.Prelude.{IfSome, bytes_eq, if◌then◌else◌, option_and_then, option_map}
 use Rattle.std.specs.Char.{is_ascii}
@@ -41,7 +41,7 @@ pub record OneRoute : Type 0 where
   pub to : RouteTarget
   pub kind : ℕ → Target
 
--- its path, given the text of the parameter
+-- the path of a route, given the text of its parameter
 abbrev path_of : OneRoute → List ℕ → List ℕ
 path_of r part = r.word ++ (part ++ (47 ∷ r.rest))
 

@@ -114,7 +114,7 @@ second-true : (a b : Bool) → (a && b) ≡ true → b ≡ true
 second-true true b is = is
 second-true false b is = let no : ⊥ = cc in absurd no
 
--- none of its stages is counted
+-- none of its stages has been counted
 none-done : (e : ElectionEntry) → is_counted_right e ≡ true → is_counted e.ward.phase ≡ false → e.ward.done ≡ 0
 none-done e right unsealed =
     let still : is_uncounted e ≡ true = rw unsealed at right in

@@ -63,9 +63,9 @@ module _ (gate : Option GateEntry) (hall : Option PublicEntry) (what : PublicTar
   own-there : (method : List ℕ) → method ≡ codes "GET" → asked-there method hall ≡ public_at hall what
   own-there method is = ap (λ m. asked-there m hall) is ∙ got hall
 
--- ---- under which settings it is shown
+-- ---- under which settings something is shown
 
--- the settings of what is shown in public, if something of that is requested
+-- the settings that define what is shown in public, if any of it is requested
 abbrev shown_of : HttpRequestEntry → Option PublicEntry
 shown_of (denied why) = None
 shown_of (shown clerk show) = None

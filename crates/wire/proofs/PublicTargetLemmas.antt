@@ -1,4 +1,4 @@
--- A target of something that is shown in public names exactly what it is the path of.
+-- A target names something that is shown in public if and only if the target is its path.
 use Rattle.std.proofs.Common.{◌≡◌, ◌∙◌, ◌-◌, ◌++◌, ℕ, Bool, true, false, List, Option, Some, None, ap, arith, codes, drop, length, refl, subst, sym, take}
 use Rattle.std.specs.Prelude.{bytes_eq, if◌then◌else◌, nat_eq, option_map}
 use Rattle.std.specs.Char.{is_ascii_digit}
@@ -16,7 +16,7 @@ use Rattle.wire.proofs.OfficeTargetLemmas.{begun, number-first, rest-behind}
 
 -- ---- a ward's page, by the word at the start of the target
 
--- what follows the first n bytes
+-- what follows the first n bytes of a target
 tail-of : (n : ℕ) (target : List ℕ) → take (length target - n) (drop n target) ≡ drop n target
 tail-of n target = take_all (length target - n) (drop n target) (omega (arith, length-drop n target))
 
@@ -47,7 +47,7 @@ declaration-routed part n own = rw (no-page part (codes "/result") n own refl re
 
 -- ---- and no other target does
 
--- what a comparison with a text shows: the target is this text, and names this thing
+-- what a successful comparison with a text shows: the target is this text, and names what it should
 same-text : (text word target : List ℕ) (one what : PublicTarget) → (text ≡ word → IsPublicTarget one target) → bytes_eq text word ≡ true → Some one ≡ Some what → IsPublicTarget what target
 same-text text word target one what own same named =
     let is : one ≡ what = cc in

@@ -1,4 +1,4 @@
--- The text written for the values of answers, character by character.
+-- The text that is written for each JSON value, character by character.
 use Rattle.std.proofs.Common.{◌≡◌, ◌∷◌, false, ℕ, List, [], refl}
 use Rattle.serde_json.specs.Written.{compact_text, has_float}
 use Rattle.serde_json.specs.Data.{Data}

@@ -1,4 +1,4 @@
--- What a request asks for, judged from what was read of it.
+-- What a request asks for, as the bytes read from it show.
 use Rattle.std.proofs.Common.{◌≡◌, ◌∙◌, ◌≤◌, ◌-◌, subst, List, ◌++◌, Option, Some, None, Result, Ok, Err, drop, inl, inr, length, map, refl, sym, ap, take, arith, append_assoc, ℕ}
 use Rattle.std.specs.Prelude.{IfErr, IfOk, IfSome}
 use Rattle.std.specs.Io.KnownBytes.{Consumes}
@@ -89,7 +89,7 @@ Asks-head settings None mid got headers spans found r fits places took is = tt
 Asks-head settings (Some bytes) mid got headers spans found (Err e) fits places took is = tt
 Asks-head settings (Some bytes) mid got headers spans found (Ok asked) fits places took is = Asks-entry settings (Some bytes) mid got headers spans found (http_request_entry asked) fits places took is
 
--- ---- what doesn't yet determine what is requested
+-- ---- bytes that don't yet determine what is requested
 
 module _ (settings : HttpSettingsEntry) (got : List ℕ) (headers : List HeaderSpan) (spans : RequestSpans) where
   -- a head lacks bytes if the spans that were found for it do
@@ -100,14 +100,14 @@ module _ (settings : HttpSettingsEntry) (got : List ℕ) (headers : List HeaderS
       (subst (λ p. MissesBytes (wanted settings fields head.method p) (body_length fields) behind) there.path
       (subst (λ m. MissesBytes (wanted settings fields m (span_bytes got spans.path)) (body_length fields) behind) there.method completeness_of))
 
-  -- bytes that begin with what was read don't determine what is requested, if what was found in them lacks more
+  -- bytes that begin with what was read don't determine what is requested if the head found in them needs more bytes
   pub IsIncomplete-found : (bytes left : List ℕ) → IsRequestOf got headers spans → length got ≤ 8192 → length headers ≡ 32 → bytes ≡ got ++ left
       → MissesFound settings got headers spans (drop spans.len got ++ left) → IsIncomplete settings bytes
   IsIncomplete-found bytes left (head, there) fits places e completeness_of =
       let behind = drop spans.len got ++ left in
       inr (head, behind, begins bytes got left headers spans head there fits places e, MissesBehind-of head there behind completeness_of)
 
--- the head is complete, and what it asks for isn't
+-- the head is complete, but what it asks for isn't
 pub FailsAfter-behind : (settings : HttpSettingsEntry) (old mid new : Option (List ℕ)) (got : List ℕ) (headers : List HeaderSpan) (spans : RequestSpans)
     → IsRequestOf got headers spans → (r : Result HttpRequest ReadFailure)
     → length got ≤ 8192 → length headers ≡ 32 → Consumes old mid got → IfErr r (FailsAfter mid new (MissesAt settings got headers spans)) → IfErr r (FailsAfter old new (IsIncomplete settings))
@@ -116,7 +116,7 @@ FailsAfter-behind settings old mid new got headers spans found (Err Memory) fits
 FailsAfter-behind settings old mid new got headers spans found (Err Broken) fits places took (more, then, completeness_of) =
     (got ++ more, Consumes-trans old mid new got more took then, IsIncomplete-found settings got headers spans (got ++ more) more found fits places refl completeness_of)
 
--- ---- judged from the parsed head
+-- ---- what the parsed head shows
 
 -- what follows a head, as a part of what was read
 pub rest_of : (n : ℕ) (got : List ℕ) → take (length got - n) (drop n got) ≡ drop n got

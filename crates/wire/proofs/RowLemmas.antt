@@ -1,4 +1,4 @@
--- What a walk over the rows of a router finds: that the path matches the pattern of the row; and if a path matches, what is found.
+-- What a walk over the rows of a router finds: the path matches the pattern of the row found. Also, what is found if a path matches a pattern.
 use Rattle.std.proofs.Common.{◌≡◌, ◌∙◌, ◌⊎◌, ◌-◌, ◌+◌, ◌<◌, ◌==◌, zero, suc, ℕ, Bool, true, false, cond, List, [], ◌∷◌}
 use Rattle.std.proofs.Common.{◌++◌, Option, Some, None, append-nil, drop, inl, inr, length, ltb, refl, subst, sym, ap, take, arith}
 use Rattle.std.specs.Prelude.{IfSome, ⊤}
@@ -18,13 +18,13 @@ abbrev pub HasNoSlash : List ℕ → Type 0
 HasNoSlash [] = ⊤
 HasNoSlash (b ∷ bytes) = ((b == 47) ≡ false) × HasNoSlash bytes
 
--- the path begins with this byte, and its rest satisfies this
+-- the path begins with the given byte, and the rest satisfies the given predicate
 pub record BeginsBy (b : ℕ) (path : List ℕ) (GoesOn : List ℕ → Type 0) : Type 0 where
   pub rest : List ℕ
   pub is : path ≡ b ∷ rest
   pub goes_on : GoesOn rest
 
--- the path begins with some bytes, none of them a slash, and its rest satisfies this
+-- the path begins with bytes other than slashes, and the rest satisfies the given predicate
 pub record BeginsByPart (path : List ℕ) (GoesOn : List ℕ → Type 0) : Type 0 where
   pub part : List ℕ
   pub rest : List ℕ
@@ -57,7 +57,7 @@ no_slash-whole (x ∷ path) none = by (x == 47) refl none (no_slash-whole path)
     by true is none later = let no : ⊥ = cc in absurd no
     by false is none later = (is, later none)
 
--- the segment formed by some bytes before a slash
+-- the segment formed by the bytes before a slash
 pub segment-part : (part rest : List ℕ) → HasNoSlash part → segment (part ++ (47 ∷ rest)) ≡ part ++ (47 ∷ [])
 segment-part [] rest whole = refl
 segment-part (x ∷ part) rest whole = rw whole.0 (ap (λ s. x ∷ s) (segment-part part rest whole.1))
@@ -68,7 +68,7 @@ length-after part = length-append part (47 ∷ [])
 -- ---- whatever is found matches
 
 module _ {K : Type 0} (G : K → Type 0) where
-  -- each row satisfies what is claimed of its key, if the path matches the rest of the row's pattern
+  -- if the path matches the rest of a row's pattern, what is claimed about the row's key holds
   abbrev pub Gives : RowsOf K → List ℕ → Type 0
   Gives [] path = ⊤
   Gives ((t, key) ∷ others) path = (Fits t path → G key) × Gives others path
@@ -184,7 +184,7 @@ pub record GoBySlash {K : Type 0} (rows : RowsOf K) : Type 0 where
   pub keeps : with_suffix (47 ∷ []) (step param_token rows) ≡ step param_token rows
 
 module _ {K : Type 0} where
-  -- the rows that continue with these bytes, with those bytes removed
+  -- the rows that continue with the given bytes, with those bytes removed
   abbrev pub steps : List ℕ → RowsOf K → RowsOf K
   steps [] rows = rows
   steps (b ∷ word) rows = steps word (step b rows)

@@ -1,4 +1,4 @@
--- What a connection is sent, and what it leaves.
+-- What a connection is sent, and the state that it leaves.
 use Rattle.std.proofs.Common.{◌≡◌, ℕ, Bool, List, Option, inl, inr, refl, subst}
 use Rattle.std.specs.Prelude.{IfSome}
 use Rattle.sqlite.specs.State.{State}
@@ -19,7 +19,7 @@ use Rattle.wire.specs.declared.serving.Served.TheVariants.{Answered, ReadFailed,
 pub IsDeniedAlike-all : (why : RequestError) → IsDeniedAlike why
 IsDeniedAlike-all why s t next answer is = (is.0, (refl, is.1), is.1)
 
--- and so is a request for what is shown
+-- and so is a request for a page that is shown
 pub IsShownAlike-all : (show : ShowEntry) → IsShownAlike show
 IsShownAlike-all show clerk s t next answer is = (is.0, (refl, is.1), is.1)
 
@@ -66,7 +66,7 @@ Serves-memory settings bytes old new s served closed st open_at it =
     ends-put _ _ old new served
     (ready-too (IsWritten (fault_response 101)) (λ response. ReadiesFor settings bytes s response closed st) old new served (λ response ready. inr (ready, open_at)) it)
 
--- the same if the office is closed
+-- a request was answered by a closed office
 pub ServesClosed-asked : (settings : HttpSettingsEntry) (bytes old new : Option (List ℕ)) (asked : HttpRequestEntry) (served : Served) → IfSome bytes (λ xs. Asks settings xs asked)
     → IsServed (IsTold (closed_response asked)) old new served → ServesClosed settings bytes old new served
 ServesClosed-asked settings bytes old new asked served asks it =
@@ -84,7 +84,7 @@ OnAnswered-both (Answered status) P Q always own = (always, own)
 OnAnswered-both ReadFailed P Q always own = tt
 OnAnswered-both WriteFailed P Q always own = tt
 
--- the same if the writer failed
+-- what holds however the write ended, together with what holds if the writer failed
 pub OnWriteFailed-both : (served : Served) (P Q : Type 0) → P → OnWriteFailed served Q → OnWriteFailed served (P × Q)
 OnWriteFailed-both (Answered status) P Q always own = tt
 OnWriteFailed-both ReadFailed P Q always own = tt

@@ -15,9 +15,9 @@ use Rattle.matchit.proofs.OnLiterals.{matchit_on_literals}
 use Rattle.wire.specs.Targets.{named_at, routed_by, office_routes}
 use Rattle.wire.specs.declared.target.RouteTarget.{RouteTarget}
 
--- ---- the route found is the route of one of the rows
+-- ---- the route found belongs to one of the rows
 
--- the route of each row satisfies this
+-- the route of each row satisfies the given predicate
 abbrev pub AllRoutes : {K : Type 0} → (K → Type 0) → RowsOf K → Type 0
 AllRoutes P [] = ⊤
 AllRoutes P ((t, key) ∷ others) = P key × AllRoutes P others
@@ -101,13 +101,13 @@ pub office_routes-ascii : AllRoutes HasAsciiText office_routes
 unfolding matchit_on_literals
 office_routes-ascii = (refl, (refl, (refl, (refl, (refl, (refl, (refl, (refl, tt))))))))
 
--- the values of the parameters of the route found
+-- the parameter values for the route found
 pub taken-text : (target : List ℕ) (route : RouteOf RouteTarget) → IsAscii target → first office_routes target ≡ Some route → AllText (walk route.pattern route.text target route.names 0 0)
 taken-text target route own_target found =
     let text : HasAsciiText route = subst (λ o. IfSome o HasAsciiText) found (seek-kind HasAsciiText 0 office_routes target office_routes-ascii) in
     walk-text route.pattern route.text target route.names 0 0 (IsAscii-told route.text text) own_target
 
--- what a target names by the route that was found
+-- what a target names according to the route that was found
 pub routed_by-found : (target : List ℕ) (route : RouteOf RouteTarget) → IsAscii target → first office_routes target ≡ Some route
     → routed_by target ≡ named_at route.value (walk route.pattern route.text target route.names 0 0)
 routed_by-found target route own_target found = rw (ascii_told target own_target, found) refl

@@ -13,7 +13,7 @@ use Rattle.std.specs.Str.{IsUtf8, is_utf8}
 use Rattle.std.proofs.lemmas.Str.{IsUtf8-from_is_utf8, is_utf8-from_IsUtf8}
 use Rattle.wire.specs.Bodies.{json_in, texts_in}
 
--- these values have these texts, and more values follow
+-- the values read so far have the given texts, and more values follow
 abbrev pub ReadsOn : List Data → List (List ℕ) → Type 0
 ReadsOn read texts = (others : List Data) → texts_in (items_of (read ++ others)) ≡ option_map (λ more. texts ++ more) (texts_in (items_of others))
 
@@ -61,7 +61,7 @@ behind all so_far value first (there, is) = (
     same [] = refl
     same (x ∷ xs) = ap (λ t. x ∷ t) (same xs)
 
--- one of the values after those isn't a string
+-- one of the values after those read so far isn't a string
 pub texts_in-stop : (all so_far : List Value) (texts : List (List ℕ)) (value : Value) → ReadsOn (map view so_far) texts → map (λ (x : Value). x) so_far ≡ take (length so_far) all
     → (length so_far < length all) × (value ≡ get_or all (length so_far) value) → as_str (view value) ≡ None → None ≡ texts_in (items_view all)
 texts_in-stop all so_far texts value reads first there is =
@@ -69,7 +69,7 @@ texts_in-stop all so_far texts value reads first there is =
     sym (ap (λ l. texts_in (items_view l)) parts ∙ ap (λ l. texts_in (items_of l)) (map-append view so_far (value ∷ others)) ∙ ReadsOn-stop
     (map view so_far) texts (view value) (map view others) reads is)
 
--- one more value, with its text
+-- another value, with its text
 pub ReadsOn-next : (so_far : List Value) (texts pushed : List (String Global)) (value : Value) (text : String Global) → ReadsOn (map view so_far) (map string_bytes texts)
     → pushed ≡ texts ++ text ∷ [] → Some (string_bytes text) ≡ as_str (view value) → ReadsOn (map view (so_far ++ value ∷ [])) (map string_bytes pushed)
 ReadsOn-next so_far texts pushed value text reads is e others =

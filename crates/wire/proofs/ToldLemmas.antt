@@ -1,4 +1,4 @@
--- A response that carries the office's answer.
+-- A response with the office's answer.
 use Rattle.std.proofs.Common.{◌≡◌, ℕ, List, Result, Ok, Err, inr, subst}
 use Rattle.std.specs.Prelude.{IfOk, OnErr}
 use Rattle.serde_json.specs.Data.{Data}

@@ -29,7 +29,7 @@ list_in value = option_and_then texts_in (as_array value)
 abbrev pub round_in : Data → Option ℕ
 round_in value = option_and_then (λ n. if nat_le n 4294967295 then Some n else None) (option_and_then as_u64 (as_number value))
 
--- the values of these three members, in the order of their names, if there are no others
+-- the values of `id`, `papers` and `round`, if an object has exactly these members
 abbrev pub key_members : Members → Option (Data × Data × Data)
 key_members (member a id (member b papers (member c round no_members))) =
     if bytes_eq a (codes "id") && (bytes_eq b (codes "papers") && bytes_eq c (codes "round")) then Some (id, papers, round) else None

@@ -49,7 +49,7 @@ words_within words = if nat_le 1 (length words) && nat_le (length words) most_wo
 abbrev pub words_in : Data → Option (List (List ℕ))
 words_in value = option_and_then words_within (list_in value)
 
--- the values of these two members, in the order of their names, if there are no others
+-- the values of `files` and `words`, if an object has exactly these members
 abbrev pub order_members : Members → Option (Data × Data)
 order_members (member a files (member b words no_members)) = if bytes_eq a (codes "files") && bytes_eq b (codes "words") then Some (files, words) else None
 order_members (member a files (member b words (member c other more))) = None

@@ -65,24 +65,24 @@ settings_entry settings =
 abbrev pub no_settings : HttpSettingsEntry
 no_settings = record { origin = None; gate = None; public = None }
 
--- ---- the clerk of a target
+-- ---- the clerk in a target
 
 -- the number in the first n bytes, if a slash follows
 abbrev pub number_before : ℕ → List ℕ → Option ℕ
 number_before n text = if slice_index text n == 47 then number_in (take n text) else None
 
--- the clerk whose number is in a target such as `/clerks/4/..`, whether or not anything is served there
+-- the clerk whose number is contained in a target such as `/clerks/4/..`, whether or not anything is served there
 abbrev pub clerk_under : List ℕ → Option ℕ
 clerk_under target =
     if starts_with nat_eq target (codes "/clerks/") then number_before (prefix_len is_ascii_digit (drop 8 target)) (drop 8 target) else None
 
--- the account whose code a target needs: the office's for everything under `/office/`, if the office has a code; otherwise that of the clerk whose number is in the
+-- the account whose code a target requires: the office's for everything under `/office/`, if the office has a code; otherwise that of the clerk whose number is in the
 -- target
 abbrev pub account_under : Option (List ℕ) → List ℕ → Option Account
 account_under office target =
     if starts_with nat_eq target (codes "/office/") then (if is_some office then Some Office else None) else option_map (λ clerk. Clerk clerk) (clerk_under target)
 
--- the same at a gate; without a gate, no target needs a code
+-- the account whose code a target requires at a gate; without a gate, no target requires a code
 abbrev pub account_at : Option GateEntry → List ℕ → Option Account
 account_at None target = None
 account_at (Some gate) target = account_under gate.office target
@@ -150,18 +150,18 @@ needs_public (target.Resource reading) = false
 needs_public (target.Office place) = false
 needs_public (target.Public what) = true
 
--- the target, if it is served at this gate, or without a gate
+-- the target, if it is served at the given gate, or without one
 abbrev pub served_with_gate : Option GateEntry → Option Target → Option Target
 served_with_gate gate None = None
 served_with_gate None (Some there) = if needs_gate there then None else Some there
 served_with_gate (Some gate) (Some there) = if needs_office there && not (is_some gate.office) then None else Some there
 
--- the target, if it is served given what is shown in public, if anything
+-- the target, if it is served, given what is shown in public (if anything)
 abbrev pub shown_by : Option PublicEntry → Option Target → Option Target
 shown_by public None = None
 shown_by public (Some there) = if needs_public there && not (is_some public) then None else Some there
 
--- the target, if it is served given the gate and what is shown in public
+-- the target, if it is served, given the gate and what is shown in public
 abbrev pub served_at : Option GateEntry → Option PublicEntry → Option Target → Option Target
 served_at gate public there = shown_by public (served_with_gate gate there)
 
@@ -172,7 +172,7 @@ abbrev pub has_code : GateEntry → Account → List ℕ → Bool
 has_code gate (Clerk clerk) value = is_of gate.holders clerk value
 has_code gate Office value = is_office gate.office value
 
--- Why authentication failed, given the values of `Authorization`. It succeeds if there is exactly one value and that is the account's.
+-- Why authentication failed, given the values of `Authorization`. It succeeds if there is exactly one value, and that value is the account's.
 abbrev pub authentication_failure_by : GateEntry → Account → List (List ℕ) → Option RequestError
 authentication_failure_by gate account [] = Some (Unauthorized account)
 authentication_failure_by gate account (value ∷ []) = if has_code gate account value then None else Some (WrongCode account)
@@ -204,17 +204,17 @@ is_wrong_code None = false
 is_wrong_code (Some (WrongCode account)) = true
 is_wrong_code (Some other) = false
 
--- the authentication, at a gate, of a request that needs an account's code
+-- the authentication, at a gate, of a request that requires an account's code
 abbrev pub authentication_by : Option GateEntry → Option Account → List NamedValue → Option AuthenticationEntry
 authentication_by None account fields = None
 authentication_by (Some gate) None fields = None
 authentication_by (Some gate) (Some account) fields = Some (record { account = account; is_wrong = is_wrong_code (authentication_failure_by gate account (sent_codes fields)) })
 
--- the authentication of a request with these header fields and this target; a request from a foreign page has none
+-- the authentication of a request with the given header fields and target; a request from a foreign page has none
 abbrev pub authentication_at : HttpSettingsEntry → List NamedValue → List ℕ → Option AuthenticationEntry
 authentication_at settings fields target = if is_foreign settings.origin fields then None else authentication_by settings.gate (account_at settings.gate target) fields
 
--- the authentication of the bytes sent by a client: that of their head; without a head there is none
+-- the authentication of the bytes sent by a client, as determined by their head; without a head there is none
 pub record IsAuthentication (settings : HttpSettingsEntry) (bytes : List ℕ) (found : Option AuthenticationEntry) : Type 0 where
   pub headed : (head : RequestHead) (behind : List ℕ) → BeginsWith bytes head behind → found ≡ authentication_at settings (map name_and_value head.fields) head.target
   pub headless : HasNoHead bytes → found ≡ None

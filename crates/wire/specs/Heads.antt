@@ -21,7 +21,7 @@ pub record BeginsWith (bytes : List ℕ) (head : RequestHead) (behind : List ℕ
 abbrev pub HasNoHead : List ℕ → Type 0
 HasNoHead bytes = (head : RequestHead) (behind : List ℕ) → ¬ (BeginsWith bytes head behind)
 
--- what was read has no complete head yet, may still become one (according to `httparse`), and is shorter than the maximum size of a head
+-- the bytes read so far contain no complete head, may still become one (according to `httparse`), and are fewer than a head may have
 pub record IsHeadIncomplete (got : List ℕ) : Type 0 where
   pub none : HasNoHead got
   pub may : MayBecomeRequest got

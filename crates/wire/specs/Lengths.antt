@@ -15,7 +15,7 @@ most_body_bytes = 1048576
 abbrev pub NamedValue : Type 0
 NamedValue = List ℕ × List ℕ
 
--- the values of the fields with this name, ignoring case
+-- the values of the fields with the given name, ignoring case
 abbrev pub values_of : List ℕ → List NamedValue → List (List ℕ)
 values_of name fields = map (λ (f : NamedValue). f.1) (filter (λ (f : NamedValue). str_eq_ignore_ascii_case f.0 name) fields)
 
@@ -30,7 +30,7 @@ length_in text =
     if not (are_digits text) then Err BadRequest else (
     if nat_le (digits_value 10 text) most_body_bytes then Ok (digits_value 10 text) else Err TooLarge)
 
--- the length, given the values of Content-Length: it is 0 if there are none, and two values are an error
+-- the length, given the values of Content-Length; it is 0 if there are none, and two values are an error
 abbrev pub told_length : List (List ℕ) → Result ℕ RequestError
 told_length [] = Ok 0
 told_length (text ∷ []) = length_in text

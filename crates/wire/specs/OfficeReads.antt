@@ -1,4 +1,4 @@
--- Reads of the officer's console that combine several answers of the office.
+-- Reads of the officer's console that combine several answers from the office.
 use Rattle.std.specs.Prelude.{List, None, Result, Ok, Err, length, map, ℕ}
 use Rattle.register.specs.Offices.{OfficeState, ReceiptEntry}
 use Rattle.register.specs.NextSteps.{NextStepEntry, step_entry}
@@ -11,7 +11,7 @@ use Rattle.wire.specs.declared.read_responses.found.WardProgress.{WardProgress}
 use Rattle.wire.specs.declared.read_responses.found.WardPapers.{WardPapers}
 use Rattle.wire.specs.declared.read_responses.found.WardRead.{WardRead}
 
--- what is made from two answers, or the reason of the first one that is a refusal
+-- the value made from two answers; or the reason for refusal, from the first answer that is a refusal
 abbrev pub made_of : {X Y Z : Type 0} → (X → Y → Z) → Result X Reason → Result Y Reason → Result Z Reason
 made_of make (Ok x) (Ok y) = Ok (make x y)
 made_of make (Ok x) (Err why) = Err why
@@ -35,7 +35,7 @@ wards_read_view found = record { receipts = found.receipts; wards = map ward_vie
 
 -- ---- one ward
 
--- its next step, and all wards
+-- the ward's next step, and all wards
 pub record WardProgressView : Type 0 where
   pub next : NextStepEntry
   pub wards : List WardView
@@ -49,7 +49,7 @@ progress_told s ward = made_of progress_with (next_answer s ward) (wards_answer 
 abbrev pub progress_view : WardProgress → WardProgressView
 progress_view found = record { next = step_entry found.next; wards = map ward_view found.wards.items }
 
--- its batches, and its doubtful papers with its candidates
+-- the ward's batches, and its doubtful papers with its candidates
 pub record WardPapersView : Type 0 where
   pub batches : List BatchView
   pub doubtful : DoubtfulPapersView
@@ -63,7 +63,7 @@ ward_papers_told s ward = made_of papers_with (batches_answer s ward) (doubtful_
 abbrev pub ward_papers_view : WardPapers → WardPapersView
 ward_papers_view found = record { batches = map batch_view found.batches.items; doubtful = doubtful_papers_view found.doubtful }
 
--- all of it
+-- everything that is read about one ward
 pub record WardReadView : Type 0 where
   pub progress : WardProgressView
   pub papers : WardPapersView

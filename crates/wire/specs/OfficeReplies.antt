@@ -71,7 +71,7 @@ action_word (Surplus candidate) = codes "surplus"
 action_word (Exclude candidate) = codes "exclusion"
 action_word (ExcludeLast candidate) = codes "last exclusion"
 
--- the candidate that a stage is about, or 0
+-- the candidate that a stage concerns, or 0
 abbrev pub action_candidate : Action → ℕ
 action_candidate First = 0
 action_candidate (Surplus candidate) = candidate
@@ -97,7 +97,7 @@ lot_data stage kind tied = object
     (member (codes "step") (string (codes "lot"))
     (member (codes "tied") (numbers_data tied) no_members))))
 
--- what is due in a count: its next stage, which has this number; a lot; or the declaration
+-- what comes next in a count: the next stage, with the given number; a lot; or the declaration
 abbrev pub due_data : ℕ → Due → Data
 due_data stage (Act action) = stage_data stage action
 due_data stage (Lot at kind tied) = lot_data at kind tied
@@ -144,7 +144,7 @@ most_papers = 18446744073709551615
 abbrev pub given_out : List BatchView → ℕ
 given_out batches = min (sum_by (λ (v : BatchView). v.batch.size) batches) most_papers
 
--- the size of a batch, if it is taken, otherwise 0
+-- the size of a batch if it is taken, otherwise 0
 abbrev pub size_in : BatchStanding → ℕ → ℕ
 size_in Taken size = size
 size_in Differing size = 0

@@ -1,4 +1,4 @@
--- The targets of the officer console's reads.
+-- The targets of the console's reads.
 use Rattle.std.specs.Prelude.{◌≡◌, ◌++◌, ◌==◌, List, [], Option, Some, None, bytes_eq, codes, drop, if◌then◌else◌, nat_eq, option_and_then, option_map, take, ℕ}
 use Rattle.std.specs.Char.{is_ascii_digit}
 use Rattle.std.specs.List.{prefix_len, starts_with}
@@ -13,20 +13,20 @@ leading_number text = number_in (take (prefix_len is_ascii_digit text) text)
 abbrev pub after_digits : List ℕ → List ℕ
 after_digits text = drop (prefix_len is_ascii_digit text) text
 
--- the read of a ward, given what follows its number
+-- the read of a ward, given the part of the target after its number
 abbrev pub of_ward : List ℕ → ℕ → Option OfficeRead
 of_ward rest ward =
     if bytes_eq rest [] then Some (Ward ward)
     else (if bytes_eq rest (codes "/batches") then Some (Batches ward)
     else (if bytes_eq rest (codes "/doubtful") then Some (Doubtful ward) else None))
 
--- the read of a batch, given what follows its number
+-- the read of a batch, given the part of the target after its number
 abbrev pub of_batch : List ℕ → ℕ → Option OfficeRead
 of_batch rest batch =
     if bytes_eq rest (codes "/differences") then Some (Differences batch)
     else (if bytes_eq rest (codes "/papers") then Some (Papers batch) else None)
 
--- the same, given everything that follows `/office/wards/` or `/office/batches/`
+-- the read of a ward or of a batch, given everything after `/office/wards/` or `/office/batches/`
 abbrev pub ward_read : List ℕ → Option OfficeRead
 ward_read behind = option_and_then (of_ward (after_digits behind)) (leading_number behind)
 
@@ -50,9 +50,9 @@ read_by target =
     if bytes_eq target (codes "/office/wards") then Some Wards
     else (if bytes_eq target (codes "/office/receipts") then Some (Receipts None) else numbered_read target)
 
--- ---- the same in plain words
+-- ---- the targets in plain words
 
--- the target of a read: its path, with its number written in 1 to 5 digits, without leading zeros
+-- the target of a read: its path, with the number written in 1 to 5 digits, without leading zeros
 abbrev pub IsReadTarget : OfficeRead → List ℕ → Type 0
 IsReadTarget Wards target = target ≡ codes "/office/wards"
 IsReadTarget (Ward ward) target = (w : List ℕ) × (target ≡ codes "/office/wards/" ++ w) × (number_in w ≡ Some ward)

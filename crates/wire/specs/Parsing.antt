@@ -39,7 +39,7 @@ read_in (Ok (target.Office place)) = None
 read_in (Ok (target.Public what)) = None
 read_in (Err why) = None
 
--- A parsed head says what these header fields, this method and this target ask for, and its length is n.
+-- A parsed head says what the given header fields, method and target ask for, and its length is n.
 pub record Says (settings : HttpSettingsEntry) (fields : List NamedValue) (method target : List ℕ) (n : ℕ) (head : Head) : Type 0 where
   pub wanted : head.wanted ≡ wanted settings fields method target
   pub authentication : option_map authentication_entry head.authentication ≡ authentication_at settings fields target
@@ -47,14 +47,14 @@ pub record Says (settings : HttpSettingsEntry) (fields : List NamedValue) (metho
   pub fits : IfOk head.body (λ size. size ≤ most_body_bytes)
   pub size : head.size ≡ n
 
--- a parsed head is the one with which the bytes begin
+-- a parsed head is the head that the bytes begin with
 pub record IsHeadOf (settings : HttpSettingsEntry) (got : List ℕ) (head : Head) : Type 0 where
   pub found : RequestHead
   pub behind : List ℕ
   pub begins : BeginsWith got found behind
   pub says : Says settings (map name_and_value found.fields) found.method found.target (length (print_request found)) head
 
--- the result of parsing: the bytes begin with this head; or they may still become one; or they don't begin with one, whatever follows
+-- the result of parsing: the bytes begin with the given head; or they may still become a head; or they don't begin with one, whatever follows them
 abbrev pub IsParsed : HttpSettingsEntry → List ℕ → Parsed → Type 0
 IsParsed settings got (parsed.Head head) = IsHeadOf settings got head
 IsParsed settings got parsed.Partial = IsHeadIncomplete got

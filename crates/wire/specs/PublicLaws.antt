@@ -15,14 +15,14 @@ pub record AreAlikeInPublic (s t : OfficeState) : Type 0 where
   pub wards : t.wards ≡ s.wards
   pub sealed : All (λ w. is_counted w.phase ≡ true → election_of t w ≡ election_of s w) s.wards
 
--- The law: both show the same.
+-- The law: both show the same things.
 abbrev pub AlikeShowAlike : Type 0
 AlikeShowAlike = (its : PublicEntry) (what : PublicTarget) (s t : OfficeState) → AreAlikeInPublic s t → public_response t its what ≡ public_response s its what
 
--- The law of the list of wards: it depends only on the table of wards, whatever has been counted.
+-- The law for the list of wards: it depends only on the table of wards, whatever has been counted.
 abbrev pub RestsOnWards : List ℕ → Type 0
 RestsOnWards title = (s : OfficeState) → screen_of title (ward_views s) ≡ screen_data title s.wards
 
--- The law of an unsealed ward: none of its stages is counted, so the list has only its number, its name and its phase.
+-- The law for an unsealed ward: none of its stages has been counted, so the list has only its number, its name and its phase.
 abbrev pub ListsUnsealed : Type 0
 ListsUnsealed = (s : OfficeState) → IsState s → All (λ w. is_counted w.phase ≡ false → screen_ward_data w ≡ screen_ward_data (record w { done = 0 })) s.wards

@@ -25,17 +25,17 @@ screen_ward_data w = object
 abbrev pub screen_data : List ℕ → List WardEntry → Data
 screen_data title wards = object (member (codes "title") (string title) (member (codes "wards") (list_data screen_ward_data wards) no_members))
 
--- the same, made from the reads of the wards, of which the list contains nothing else
+-- this value, made from the views of the wards; the list contains nothing else from them
 abbrev pub screen_of : List ℕ → List WardView → Data
 screen_of title views = screen_data title (map (λ v. v.ward) views)
 
 -- ---- the page of a ward
 
--- the page of the ward that was found, once it is sealed
+-- the page of the ward that was found, once the ward is sealed
 abbrev pub page_found : List ℕ → OfficeState → Option WardEntry → Result (List ℕ) Reason
 page_found title s None = Err NoSuchWard
 page_found title s (Some w) = if is_counted w.phase then Ok (result_page_of title (election_of s w)) else Err WrongPhase
 
--- the answer to a request for the page of the ward with this number
+-- the answer to a request for the page of the ward with the given number
 abbrev pub page_told : List ℕ → OfficeState → ℕ → Result (List ℕ) Reason
 page_told title s ward = if is_ward_number ward then page_found title s (ward_at s ward) else Err NumberOutOfRange

@@ -6,7 +6,7 @@ use Rattle.wire.specs.OfficeTargets.{after_digits, leading_number}
 use Rattle.wire.specs.declared.public_target.PublicTarget.{PublicTarget}
 use Rattle.wire.specs.declared.public_target.PublicTarget.TheVariants.{Index, Screen, Wards, Page}
 
--- the page of a ward, given everything that follows `/wards/`
+-- the page of a ward, given everything after `/wards/`
 abbrev pub page_after_prefix : List ℕ → Option PublicTarget
 page_after_prefix behind = if bytes_eq (after_digits behind) (codes "/page") then option_map (λ ward. Page ward) (leading_number behind) else None
 
@@ -20,9 +20,9 @@ public_by target =
     else (if bytes_eq target (codes "/screen") then Some Screen
     else (if bytes_eq target (codes "/screen/wards") then Some Wards else ward_page_by target))
 
--- ---- the same in plain words
+-- ---- the targets in plain words
 
--- the target of something that is shown in public: its path, with its number written in 1 to 5 digits, without leading zeros
+-- the target of something that is shown in public: its path, with the number, if any, written in 1 to 5 digits, without leading zeros
 abbrev pub IsPublicTarget : PublicTarget → List ℕ → Type 0
 IsPublicTarget Index target = target ≡ codes "/"
 IsPublicTarget Screen target = target ≡ codes "/screen"

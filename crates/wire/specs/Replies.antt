@@ -61,15 +61,15 @@ work_data w = object
 abbrev pub clerk_data : ℕ → List WorkEntry → Data
 clerk_data clerk work = object (member (codes "clerk") (number_data clerk) (member (codes "work") (list_data work_data work) no_members))
 
--- its JSON
+-- the JSON for a clerk's work
 abbrev pub work_body : ℕ → List WorkEntry → List ℕ
 work_body clerk work = compact_text (clerk_data clerk work)
 
--- a candidate of a ballot paper
+-- a candidate on a ballot paper
 abbrev pub candidate_data : CandidateEntry → Data
 candidate_data c = object (member (codes "candidate") (number_data c.number) (member (codes "name") (string c.name) no_members))
 
--- what is on the papers of a batch: its ward, with its name, and the ward's candidates
+-- what is on a batch's papers: the ward, with its name and its candidates
 abbrev pub paper_data : ℕ → BallotPaperEntry → Data
 paper_data batch p = object
     (member (codes "batch") (number_data batch)
@@ -77,7 +77,7 @@ paper_data batch p = object
     (member (codes "name") (string p.name)
     (member (codes "ward") (number_data p.ward) no_members))))
 
--- its JSON
+-- the JSON for what is on a batch's papers
 abbrev pub paper_body : ℕ → BallotPaperEntry → List ℕ
 paper_body batch p = compact_text (paper_data batch p)
 

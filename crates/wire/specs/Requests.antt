@@ -1,4 +1,4 @@
--- What a request asks for, or why it is rejected before the office is asked, as determined by its head and the bytes that follow the head.
+-- What a request asks for, or why it is rejected before the office is asked, as determined by its head and the bytes after it.
 use Rattle.std.specs.Prelude.{◌≡◌, ◌⊎◌, ◌+◌, ◌<◌, ◌++◌, ⊤, Bool, List, [], ◌∷◌, Option, Some, None, Result}
 use Rattle.std.specs.Prelude.{Ok, Err, bytes_eq, codes, drop, false, if◌then◌else◌, length, map, option_and_then, string_bytes, take, true, ℕ}
 use Rattle.std.specs.Io.KnownBytes.{Consumes}
@@ -32,7 +32,7 @@ use Rattle.wire.specs.Lengths.{NamedValue, body_length}
 use Rattle.wire.specs.Origins.{is_foreign}
 use Rattle.wire.specs.Targets.{named_by}
 
--- what is shown, whatever the state: a page; or that the clerk or the office is signed out, in which case the browser should forget the code
+-- what is shown, whatever the state: a page; or that the clerk or the office is signed out, so that the browser should forget the code
 pub data ShowEntry : Type 0 where
   page : PageEntry → ShowEntry
   has_left : ShowEntry
@@ -62,7 +62,7 @@ http_request_entry (ConsolePage show) = console (show_entry show)
 http_request_entry (Order its) = order (console_order_entry its)
 http_request_entry (Public its what) = public (public_entry its) what
 
--- why a request wasn't read, judged by the source's failure count: it is one higher, or unchanged if an allocation failed
+-- why a request wasn't read, judging by the source's failure count: it is one higher, or unchanged if an allocation failed
 abbrev pub IsUnread : ℕ → ℕ → ReadFailure → Type 0
 IsUnread old new Broken = new ≡ old + 1
 IsUnread old new Memory = new ≡ old
@@ -103,12 +103,12 @@ abbrev pub ordered_with : Result ℕ RequestError → List ℕ → HttpRequestEn
 ordered_with (Ok n) behind = ordered_in (option_and_then order_of (body_in n behind))
 ordered_with (Err why) behind = denied why
 
--- what is requested at a target, if the method is the right one
+-- what is requested at a target, if the target allows the method
 abbrev pub asked_for : List ℕ → Option Target → Result Target RequestError
 asked_for method None = Err NotFound
 asked_for method (Some there) = if bytes_eq method (verb_text (verb_of there)) then Ok there else Err (MethodNotAllowed (verb_of there))
 
--- the same, provided that authentication didn't fail
+-- what is requested at a target, provided that authentication didn't fail
 abbrev pub let_in : Option RequestError → List ℕ → Option Target → Result Target RequestError
 let_in (Some why) method there = Err why
 let_in None method there = asked_for method there
@@ -117,7 +117,7 @@ let_in None method there = asked_for method there
 abbrev pub wanted_after : Option GateEntry → Option PublicEntry → List NamedValue → List ℕ → List ℕ → Result Target RequestError
 wanted_after gate hall fields method target = let_in (authentication_failure gate (account_at gate target) fields) method (served_at gate hall (named_by target))
 
--- what a request with these header fields asks for: nothing if they are foreign
+-- what a request asks for: nothing if its header fields are foreign
 abbrev pub wanted_by : Bool → Option GateEntry → Option PublicEntry → List NamedValue → List ℕ → List ℕ → Result Target RequestError
 wanted_by true gate hall fields method target = Err Forbidden
 wanted_by false gate hall fields method target = wanted_after gate hall fields method target
@@ -125,22 +125,22 @@ wanted_by false gate hall fields method target = wanted_after gate hall fields m
 abbrev pub wanted : HttpSettingsEntry → List NamedValue → List ℕ → List ℕ → Result Target RequestError
 wanted settings fields method target = wanted_by (is_foreign settings.origin fields) settings.gate settings.public fields method target
 
--- the request for a gate's page, shown to a clerk
+-- the request to show a clerk the gate's page
 abbrev pub page_at : Option GateEntry → ℕ → HttpRequestEntry
 page_at None clerk = denied NotFound
 page_at (Some gate) clerk = shown clerk (page gate.page)
 
--- the request for a gate's console
+-- the request to show the gate's console
 abbrev pub console_at : Option GateEntry → HttpRequestEntry
 console_at None = denied NotFound
 console_at (Some gate) = console (page gate.console)
 
--- the request for something that is shown in public, if anything is
+-- the request to show something in public, if anything is shown in public
 abbrev pub public_at : Option PublicEntry → PublicTarget → HttpRequestEntry
 public_at None what = denied NotFound
 public_at (Some its) what = public its what
 
--- what is requested at a target; except for a keying and an order, neither the length of the body nor any byte after the head matters
+-- what is requested at a target; neither the length of the body nor any byte after the head matters, except for a keying and an order
 abbrev pub asked_of : Option GateEntry → Option PublicEntry → Result Target RequestError → Result ℕ RequestError → List ℕ → HttpRequestEntry
 asked_of gate hall (Ok (target.Keying clerk batch)) size behind = asked_with clerk batch size behind
 asked_of gate hall (Ok (target.Page clerk)) size behind = page_at gate clerk
@@ -152,18 +152,18 @@ asked_of gate hall (Ok (target.Office office.Orders)) size behind = ordered_with
 asked_of gate hall (Ok (target.Public what)) size behind = public_at hall what
 asked_of gate hall (Err why) size behind = denied why
 
--- what a head and the bytes that follow it ask for, under these settings
+-- what a head and the bytes after it ask for, under the given settings
 abbrev pub asked_by : HttpSettingsEntry → RequestHead → List ℕ → HttpRequestEntry
 asked_by settings head behind =
     asked_of settings.gate settings.public (wanted settings (map name_and_value head.fields) head.method head.target) (body_length (map name_and_value head.fields)) behind
 
--- the same, for a head that was found in what was read, and for the bytes that follow it
+-- what is asked for by a head that was found in what was read, and by the bytes after it
 abbrev pub asked_at : HttpSettingsEntry → List ℕ → List HeaderSpan → RequestSpans → List ℕ → HttpRequestEntry
 asked_at settings got headers spans left =
     asked_of settings.gate settings.public (wanted settings (map (header_bytes got) (take spans.headers headers)) (span_bytes got spans.method) (span_bytes got spans.path))
     (body_length (map (header_bytes got) (take spans.headers headers))) (drop spans.len got ++ left)
 
--- what the bytes sent by a client ask for
+-- what the bytes from a client ask for
 abbrev pub Asks : HttpSettingsEntry → List ℕ → HttpRequestEntry → Type 0
 Asks settings bytes asked =
     (HasNoHead bytes × (asked ≡ denied BadRequest)) ⊎ ((head : RequestHead) × (behind : List ℕ) × BeginsWith bytes head behind × (asked ≡ asked_by settings head behind))
@@ -196,7 +196,7 @@ clerk_asked (console show) = None
 clerk_asked (order entry) = None
 clerk_asked (public its what) = None
 
--- the account whose code is needed for what is requested, if any
+-- the account whose code is required for what is requested, if any
 abbrev pub account_asked : HttpRequestEntry → Option Account
 account_asked (denied why) = None
 account_asked (shown clerk show) = Some (Clerk clerk)
@@ -206,7 +206,7 @@ account_asked (console show) = Some Office
 account_asked (order entry) = Some Office
 account_asked (public its what) = None
 
--- A request has an account's code: it has exactly one `Authorization` header, whose value is that account's.
+-- A request has an account's code: it has exactly one `Authorization` header, whose value is the account's.
 pub record HoldsCode (gate : GateEntry) (account : Account) (fields : List NamedValue) : Type 0 where
   pub value : List ℕ
   pub once : sent_codes fields ≡ value ∷ []
@@ -221,12 +221,12 @@ AsksByHolder settings bytes =
 
 -- ---- incomplete requests
 
--- the bytes that follow the head are fewer than the length of the body
+-- fewer bytes follow the head than the body has
 abbrev pub MissesBody : Result ℕ RequestError → List ℕ → Type 0
 MissesBody (Ok n) behind = length behind < n
 MissesBody (Err why) behind = ⊥
 
--- what is requested needs more than the bytes that follow the head: only a keying or an order does, until its body is complete
+-- what is requested needs more bytes than follow the head; only a keying or an order does, until its body is complete
 abbrev pub MissesBytes : Result Target RequestError → Result ℕ RequestError → List ℕ → Type 0
 MissesBytes (Ok (target.Keying clerk batch)) size behind = MissesBody size behind
 MissesBytes (Ok (target.Page clerk)) size behind = ⊥
@@ -238,29 +238,29 @@ MissesBytes (Ok (target.Office office.Orders)) size behind = MissesBody size beh
 MissesBytes (Ok (target.Public what)) size behind = ⊥
 MissesBytes (Err why) size behind = ⊥
 
--- the same, for a head and the bytes that follow it
+-- what a head asks for needs more than the bytes after it
 abbrev pub MissesBehind : HttpSettingsEntry → RequestHead → List ℕ → Type 0
 MissesBehind settings head behind = MissesBytes (wanted settings (map name_and_value head.fields) head.method head.target) (body_length (map name_and_value head.fields)) behind
 
--- the same, for a head that was found in what was read, and for the bytes that follow it
+-- what is asked for by a head that was found in what was read needs more than the bytes after it
 abbrev pub MissesFound : HttpSettingsEntry → List ℕ → List HeaderSpan → RequestSpans → List ℕ → Type 0
 MissesFound settings got headers spans behind =
     MissesBytes (wanted settings (map (header_bytes got) (take spans.headers headers)) (span_bytes got spans.method) (span_bytes got spans.path))
     (body_length (map (header_bytes got) (take spans.headers headers))) behind
 
--- the same, for the bytes that were read along with the head, and those that were read after them
+-- what a head asks for needs more than the bytes after it: those read along with the head, and those read later
 abbrev pub MissesAt : HttpSettingsEntry → List ℕ → List HeaderSpan → RequestSpans → List ℕ → Type 0
 MissesAt settings got headers spans more = MissesFound settings got headers spans (drop spans.len got ++ more)
 
--- What was read doesn't yet determine what is requested: it has no complete head yet, or it has the head of a keying or an order whose body is incomplete.
+-- The bytes read so far don't determine what is requested: they contain no complete head yet, or they contain the head of a keying or an order whose body is incomplete.
 abbrev pub IsIncomplete : HttpSettingsEntry → List ℕ → Type 0
 IsIncomplete settings got = IsHeadIncomplete got ⊎ ((head : RequestHead) × (behind : List ℕ) × BeginsWith got head behind × MissesBehind settings head behind)
 
--- something was read that satisfies P; if the bytes are known, it is exactly those bytes
+-- bytes that satisfy P were read; if it is known which bytes were read, they are exactly those
 abbrev pub HasRead : Option (List ℕ) → Option (List ℕ) → (List ℕ → Type 0) → Type 0
 HasRead old new P = (got : List ℕ) × Consumes old new got × P got
 
--- if the source failed, what was read before satisfies P
+-- if the source failed, the bytes read before that satisfy P
 abbrev pub FailsAfter : Option (List ℕ) → Option (List ℕ) → (List ℕ → Type 0) → ReadFailure → Type 0
 FailsAfter old new P Broken = HasRead old new P
 FailsAfter old new P Memory = ⊤

@@ -11,7 +11,7 @@ use Rattle.wire.specs.declared.request_error.Verb.{Verb}
 use Rattle.wire.specs.declared.response.Content.{Content}
 use Rattle.wire.specs.declared.response.Content.TheVariants.{Html, Json, Text}
 
--- What the additional header lines of a response say, if anything: the method that is served, that an account's code is required, or that the client must wait a
+-- What the additional header lines of a response say, if anything: the method that is served, that an account's code is required, or that the client must wait for a
 -- minute. Or they say what a page may do in a browser (its policy), or that the browser should forget a code.
 pub data More : Type 0 where
   nothing : More
@@ -49,11 +49,11 @@ abbrev pub realm_of : Account → List ℕ
 realm_of (Clerk clerk) = codes "clerk " ++ decimal clerk
 realm_of Office = codes "office"
 
--- the line that requests an account's code; its realm names the account, so that no browser sends the code of another
+-- the line that requests an account's code; the realm names the account, so that no browser sends another account's code
 unfoldable pub code_line : List ℕ → List ℕ
 code_line realm = codes "WWW-Authenticate: Basic realm=\"" ++ (realm ++ (codes "\", charset=\"UTF-8\"" ++ line_end))
 
--- the lines that guard a page: its policy; not in a frame; no other media type; isolated from windows and pages of other servers; not stored
+-- the lines that restrict a page: its policy; not in a frame; no other media type; isolated from windows and pages of other servers; not stored
 unfoldable pub guard_lines : List ℕ → List ℕ
 guard_lines policy =
     codes "Content-Security-Policy: " ++ (policy ++ (line_end

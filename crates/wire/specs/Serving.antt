@@ -1,4 +1,4 @@
--- The response at each state of the office, and what a connection leaves.
+-- The response in each state of the office, and the state that a connection leaves.
 use Rattle.std.specs.Prelude.{◌≡◌, ◌==◌, ◌⊎◌, ◌∷◌, ⊤, Bool, List, [], Option, Some, None, Result, Ok, Err, IfSome, find, map, string_bytes, ℕ}
 use Rattle.std.specs.Io.KnownBytes.{Appends}
 use Rattle.sqlite.specs.State.{State}
@@ -49,7 +49,7 @@ use Rattle.wire.specs.declared.serving.Served.TheVariants.{Answered, ReadFailed,
 use Rattle.wire.specs.declared.target.Resource.{Resource}
 use Rattle.wire.specs.declared.target.Resource.TheVariants.{Candidates, Declaration, Keyed, Office, Sheet, Work}
 
--- the response with a refusal for this reason
+-- the response with a refusal for the given reason
 abbrev pub refused_for : Reason → ResponseEntry
 refused_for why = refusal_response (reason_number why) (reason_text why)
 
@@ -89,7 +89,7 @@ found_response v None = refused_for NoSuchWard
 abbrev pub ward_response : ℕ → WardReadView → ResponseEntry
 ward_response ward v = found_response v (find (λ (w : WardView). w.ward.number == ward) v.progress.wards)
 
--- the response to a read of the console at a state
+-- the response to a read of the console in a given state
 abbrev pub office_response : OfficeState → OfficeRead → ResponseEntry
 office_response s read.Wards = read_response (λ wards. data_response (wards_data wards)) (wards_read_told s)
 office_response s (read.Ward ward) = read_response (ward_response ward) (ward_read_told s ward)
@@ -99,7 +99,7 @@ office_response s (read.Differences batch) = read_response (λ differences. data
 office_response s (read.Papers batch) = read_response (λ papers. data_response (papers_data batch papers)) (papers_answer s batch)
 office_response s (read.Receipts actor) = read_response (λ receipts. data_response (receipts_data receipts)) (receipts_answer s actor)
 
--- the response to a read at a state
+-- the response to a read in a given state
 abbrev pub reading_response : OfficeState → Resource → ResponseEntry
 reading_response s (Work clerk) = read_response (work_response clerk) (work_answer s clerk)
 reading_response s (Candidates clerk batch) = read_response (paper_response batch) (paper_answer s clerk batch)
@@ -108,14 +108,14 @@ reading_response s (Sheet ward) = read_response text_response (text_answer text.
 reading_response s (Declaration ward) = read_response text_response (text_answer text.Declaration s ward)
 reading_response s (Office its) = office_response s its
 
--- the response with something that is shown in public, at a state
+-- the response that shows something in public, in a given state
 abbrev pub public_response : OfficeState → PublicEntry → PublicTarget → ResponseEntry
 public_response s its public_target.Index = read_response printed_response (index_answer its.title s)
 public_response s its public_target.Screen = shown_response (page its.screen)
 public_response s its public_target.Wards = read_response (λ views. data_response (screen_of its.title views)) (wards_answer s)
 public_response s its (public_target.Page ward) = read_response printed_response (page_told its.title s ward)
 
--- the request by which a clerk's keying of a batch is sent to the office
+-- the request that sends a clerk's keying of a batch to the office
 pub record IsHandedOn (clerk batch : ℕ) (entry : KeyingEntry) (request : Request) : Type 0 where
   pub actor : request.actor ≡ clerk
   pub id : string_bytes request.id ≡ entry.id
@@ -125,13 +125,13 @@ pub record IsHandedOn (clerk batch : ℕ) (entry : KeyingEntry) (request : Reque
   pub round : handed.round ≡ entry.round
   pub papers : map string_bytes handed.papers.items ≡ entry.papers
 
--- the outcome of a clerk's keying at a state: the outcome of any request by which the keying may be sent to the office
+-- the outcome of a clerk's keying in a given state: the outcome of any request that may send the keying to the office
 pub record IsOutcome (s : OfficeState) (clerk batch : ℕ) (entry : KeyingEntry) (outcome : Outcome) : Type 0 where
   pub request : Request
   pub is : IsHandedOn clerk batch entry request
   pub each : (other : Request) → IsHandedOn clerk batch entry other → outcome ≡ step_of s other
 
--- The response to the request at a state, and the state after it. Orders are carried out by the server, not here; here they get "not found".
+-- The response to the request in a given state, and the state after it. The server carries out orders; here the response to an order is "not found".
 abbrev pub IsAnswer : OfficeState → HttpRequestEntry → OfficeState → ResponseEntry → Type 0
 IsAnswer s (denied why) next answer = (next ≡ s) × (answer ≡ denied_response why)
 IsAnswer s (shown clerk show) next answer = (next ≡ s) × (answer ≡ shown_response show)
@@ -142,9 +142,9 @@ IsAnswer s (public its what) next answer = (next ≡ s) × (answer ≡ public_re
 IsAnswer s (keying clerk batch entry) next answer =
     (outcome : Outcome) × IsOutcome s clerk batch entry outcome × (next ≡ state_after s outcome) × (answer ≡ told_response (told_of outcome))
 
--- ---- what each exit leaves
+-- ---- what each outcome leaves
 
--- the office is open at the state after the request
+-- the office is open, in the state after the request
 pub record IsAnswered (s : OfficeState) (asked : HttpRequestEntry) (answer : ResponseEntry) (closed : Bool) (st : State) : Type 0 where
   pub next : OfficeState
   pub is : IsAnswer s asked next answer
@@ -162,16 +162,16 @@ FaultLeaves s (reading what) f closed st = IsKeptOpen s f closed st ⊎ IsClosed
 FaultLeaves s (keying clerk batch entry) f closed st =
     (outcome : Outcome) × IsOutcome s clerk batch entry outcome × (IsKeptOpen s f closed st ⊎ IsClosedIn s outcome f closed st)
 
--- the response to the request, with the state that it leaves; or the fault of the office
+-- the response to the request, and the state that it leaves; or the fault of the office
 abbrev pub Leaves : OfficeState → HttpRequestEntry → ResponseEntry → Bool → State → Type 0
 Leaves s asked answer closed st =
     IsAnswered s asked answer closed st ⊎ ((f : Fault) × (answer ≡ fault_response (fault_number f)) × FaultLeaves s asked f closed st)
 
--- the same, for a response that is ready to be written, whose allocation may have failed
+-- such a response is ready to be written, or its allocation failed
 abbrev pub Readies : OfficeState → HttpRequestEntry → Response → Bool → State → Type 0
 Readies s asked response closed st = (answer : ResponseEntry) × IsTold answer response × Leaves s asked answer closed st
 
--- a response that is ready carries the result of a read, mapped by a view
+-- the response that is ready is the one for the result of a read, mapped by the given view
 abbrev pub IsReadTold : {X Y : Type 0} → (X → ResponseEntry) → (Y → X) → Result Y ReadError → Response → Type 0
 IsReadTold entry view (Ok y) response = IsTold (entry (view y)) response
 IsReadTold entry view (Err (Refused why)) response = IsTold (refused_for why) response
@@ -179,7 +179,7 @@ IsReadTold entry view (Err (Failed f)) response = IsTold (fault_response (fault_
 
 -- ---- the response, and what is sent to the office for it
 
--- The requests that are sent to the office for what is requested at a state, and the response. A clerk's keying is sent on, and the response is the office's answer to it.
+-- The requests sent to the office for what is requested in a given state, and the response. A clerk's keying is forwarded, and the response is the office's answer to it.
 abbrev pub TellsAsked : OfficeState → HttpRequestEntry → Response → List Request → Type 0
 TellsAsked s (denied why) response sent = IsTold (denied_response why) response × (sent ≡ [])
 TellsAsked s (shown clerk show) response sent = IsTold (shown_response show) response × (sent ≡ [])
@@ -194,21 +194,21 @@ TellsAsked s (keying clerk batch entry) response sent =
 abbrev pub TellsFault : Response → Type 0
 TellsFault response = IsTold (fault_response (fault_number Store)) response
 
--- The response is the one to the request. Or an allocation failed, and either the office was sent nothing, or what it was sent counts as never sent.
+-- The response answers the request. Or an allocation failed, and either nothing was sent to the office, or what was sent counts as never sent.
 abbrev pub TellsFor : HttpSettingsEntry → Option (List ℕ) → OfficeState → List Request → Response → Type 0
 TellsFor settings bytes s sent response = ((asked : HttpRequestEntry) × IfSome bytes (λ xs. Asks settings xs asked)
     × TellsAsked s asked response sent) ⊎ (IsWritten (fault_response 101) response × (sent ≡ []))
 
 -- ---- a closed office
 
--- the response of a closed office for something that is shown in public: the page for the screen is the same at any state
+-- the response of a closed office for something that is shown in public; the page for the screen is the same in any state
 abbrev pub closed_public : PublicEntry → PublicTarget → ResponseEntry
 closed_public its public_target.Index = fault_response (fault_number Closed)
 closed_public its public_target.Screen = shown_response (page its.screen)
 closed_public its public_target.Wards = fault_response (fault_number Closed)
 closed_public its (public_target.Page ward) = fault_response (fault_number Closed)
 
--- The response of a closed office. A rejected request is rejected, what is shown at any state is shown, and everything else gets the fault for a closed office.
+-- The response of a closed office. A rejected request is rejected, what is shown in any state is shown, and everything else gets the fault for a closed office.
 abbrev pub closed_response : HttpRequestEntry → ResponseEntry
 closed_response (denied why) = denied_response why
 closed_response (shown clerk show) = shown_response show
@@ -218,41 +218,41 @@ closed_response (public its what) = closed_public its what
 closed_response (reading what) = fault_response (fault_number Closed)
 closed_response (keying clerk batch entry) = fault_response (fault_number Closed)
 
--- The response to a rejected request, such as one from a page on another site, is the same at every state, and for a closed office too. It changes nothing.
+-- The response to a rejected request, such as one from a page on another site, is the same in every state, and for a closed office too. The request changes nothing.
 abbrev pub IsDeniedAlike : RequestError → Type 0
 IsDeniedAlike why =
     (s t next : OfficeState) (answer : ResponseEntry) → IsAnswer s (denied why) next answer → (next ≡ s) × IsAnswer t (denied why) t answer × (answer ≡ closed_response (denied why))
 
--- the same for what is shown to a clerk at any state
+-- what is shown to a clerk is also the same in every state, and for a closed office
 abbrev pub IsShownAlike : ShowEntry → Type 0
 IsShownAlike show =
     (clerk : ℕ) (s t next : OfficeState) (answer : ResponseEntry) → IsAnswer s (shown clerk show) next answer
     → (next ≡ s) × IsAnswer t (shown clerk show) t answer × (answer ≡ closed_response (shown clerk show))
 
--- the same for what is shown to the office
+-- what is shown to the office is also the same in every state, and for a closed office
 abbrev pub IsConsoleAlike : ShowEntry → Type 0
 IsConsoleAlike show =
     (s t next : OfficeState) (answer : ResponseEntry) → IsAnswer s (console show) next answer → (next ≡ s) × IsAnswer t (console show) t answer × (answer ≡ closed_response (console show))
 
--- this response is ready to be written, and if the client's bytes are known, it answers what they ask for
+-- the given response is ready to be written, and if the client's bytes are known, it answers what they ask for
 pub record TellsClosed (settings : HttpSettingsEntry) (bytes : Option (List ℕ)) (response : Response) : Type 0 where
   pub asked : HttpRequestEntry
   pub asks : IfSome bytes (λ xs. Asks settings xs asked)
   pub tells : IsTold (closed_response asked) response
 
--- the same; or the allocation for reading the request failed
+-- such a response is ready; or the allocation for reading the request failed
 abbrev pub ReadiesClosed : HttpSettingsEntry → Option (List ℕ) → Response → Type 0
 ReadiesClosed settings bytes response = TellsClosed settings bytes response ⊎ IsWritten (fault_response 101) response
 
 -- ---- one connection
 
--- the response to a client's request is ready, with the state that it leaves; if the client's bytes are known, they ask for exactly that
+-- the response to a client's request is ready, along with the state that it leaves; if the client's bytes are known, they ask for exactly that
 pub record ReadiesAsked (settings : HttpSettingsEntry) (bytes : Option (List ℕ)) (s : OfficeState) (response : Response) (closed : Bool) (st : State) : Type 0 where
   pub asked : HttpRequestEntry
   pub asks : IfSome bytes (λ xs. Asks settings xs asked)
   pub readies : Readies s asked response closed st
 
--- the same; or the allocation for reading the request failed, and the office was sent nothing
+-- the response to a client's request is ready; or the allocation for reading the request failed, and nothing was sent to the office
 abbrev pub ReadiesFor : HttpSettingsEntry → Option (List ℕ) → OfficeState → Response → Bool → State → Type 0
 ReadiesFor settings bytes s response closed st = ReadiesAsked settings bytes s response closed st ⊎ (IsWritten (fault_response 101) response × IsOpenAt s closed st)
 
@@ -262,7 +262,7 @@ IsPut old new response (Answered status) = (status ≡ response.status) × Appen
 IsPut old new response ReadFailed = ⊥
 IsPut old new response WriteFailed = AppendsBeginning old new (told_bytes response.bytes)
 
--- a response that was ready, and the part of it that was written
+-- a response that was ready, and how much of it was written
 pub record IsServed (IsReady : Response → Type 0) (old new : Option (List ℕ)) (served : Served) : Type 0 where
   pub response : Response
   pub ready : IsReady response
@@ -274,11 +274,11 @@ EndsWith IsReady ReadFailure old new (Answered status) = IsServed IsReady old ne
 EndsWith IsReady ReadFailure old new ReadFailed = ReadFailure
 EndsWith IsReady ReadFailure old new WriteFailed = IsServed IsReady old new WriteFailed
 
--- what is written and left by each outcome of a connection; if the reader failed, the office was sent nothing
+-- what each outcome of a connection writes and leaves; if the reader failed, nothing was sent to the office
 abbrev pub Serves : HttpSettingsEntry → Option (List ℕ) → Option (List ℕ) → Option (List ℕ) → OfficeState → Served → Bool → State → Type 0
 Serves settings bytes old new s served closed st = EndsWith (λ response. ReadiesFor settings bytes s response closed st) (IsOpenAt s closed st) old new served
 
--- what is written by each outcome of a connection if the office is closed; if the reader failed, nothing was written
+-- what each outcome of a connection writes if the office is closed; if the reader failed, nothing was written
 abbrev pub ServesClosed : HttpSettingsEntry → Option (List ℕ) → Option (List ℕ) → Option (List ℕ) → Served → Type 0
 ServesClosed settings bytes old new served = EndsWith (ReadiesClosed settings bytes) (new ≡ old) old new served
 

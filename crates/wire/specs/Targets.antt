@@ -1,4 +1,4 @@
--- What the targets of requests name: eight routes with numbers in them, matched against the whole target as `matchit` does.
+-- What the targets of requests name: eight routes that contain numbers, matched against the whole target as `matchit` does.
 use Rattle.std.specs.Prelude.{◌≡◌, ◌↔◌, ◌++◌, List, [], Option, Some, None, Result, Ok, Err, bytes_eq, codes, if◌then◌else◌, option_and_then, option_map, ℕ}
 use Rattle.std.specs.Char.{is_ascii}
 use Rattle.std.specs.List.{list_all}
@@ -23,7 +23,7 @@ use Rattle.wire.specs.declared.target.Resource.TheVariants.{Candidates, Declarat
 use Rattle.wire.specs.declared.target.Target.{Target}
 use Rattle.wire.specs.declared.target.Target.TheVariants.{Keying, Leave, Office, Page, Public, Resource}
 
--- the routes, with one more added
+-- the routes, with another one added
 abbrev pub with_scanned : Result Scan InsertError → RouteTarget → RowsOf (RouteOf RouteTarget) → RowsOf (RouteOf RouteTarget)
 with_scanned (Ok scan) value routes = placed (scan.pattern, route_from scan value) routes
 with_scanned (Err e) value routes = routes
@@ -50,7 +50,7 @@ Taken = List (List ℕ × List ℕ)
 abbrev pub taken_by : Params → Taken
 taken_by params = walk params.pattern.now params.text.now params.path.now params.names.now 0 0
 
--- the number in the parameter of this name
+-- the number in the parameter with the given name
 abbrev pub parameter : List ℕ → Taken → Option ℕ
 parameter name taken = option_and_then number_in (named name taken)
 
@@ -72,7 +72,7 @@ named_at place.Declaration taken = option_map (λ ward. Resource (Declaration wa
 abbrev pub route_of : List ℕ → Option (RouteOf RouteTarget)
 route_of target = if list_all is_ascii target then first office_routes target else None
 
--- what a target names by its route
+-- what a target names according to its route
 abbrev pub routed_by : List ℕ → Option Target
 routed_by target = option_and_then (λ (route : RouteOf RouteTarget). named_at route.value (walk route.pattern route.text target route.names 0 0)) (route_of target)
 
@@ -107,7 +107,7 @@ named_in None target = read_or_other (read_by target) target
 abbrev pub named_by : List ℕ → Option Target
 named_by target = named_in (office_by target) target
 
--- ---- the same in plain words
+-- ---- the targets in plain words
 
 -- the target of something that is served: its path, with each number written in 1 to 5 digits, without leading zeros
 abbrev pub IsTargetOf : Target → List ℕ → Type 0
@@ -126,6 +126,6 @@ IsTargetOf (Public what) target = IsPublicTarget what target
 IsTargetOf (Resource (Reads read)) target = IsReadTarget read target
 IsTargetOf (Resource (Declaration ward)) target = (w : List ℕ) × (target ≡ codes "/wards/" ++ (w ++ codes "/result")) × (number_in w ≡ Some ward)
 
--- a target names exactly what it is the path of, so no other target names it
+-- a target names something if and only if the target is its path, so no other target names it
 abbrev pub NamesOnlyItsPath : List ℕ → Type 0
 NamesOnlyItsPath target = (there : Target) → (named_by target ≡ Some there) ↔ IsTargetOf there target

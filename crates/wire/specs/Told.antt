@@ -10,11 +10,11 @@ abbrev pub told_bytes : Bytes → List ℕ
 told_bytes (Fixed text) = text.now
 told_bytes (Made text) = string_bytes text
 
--- a response has the status and the bytes of this one
+-- a response has the given status and bytes
 pub record IsWritten (entry : ResponseEntry) (response : Response) : Type 0 where
   pub status : response.status ≡ entry.status
   pub bytes : told_bytes response.bytes ≡ response_bytes entry
 
--- a response is this one, or the out-of-memory response
+-- a response is the given one, or the out-of-memory response
 abbrev pub IsTold : ResponseEntry → Response → Type 0
 IsTold entry response = IsWritten entry response ⊎ IsWritten (fault_response 101) response

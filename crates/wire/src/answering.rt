@@ -30,7 +30,7 @@ use sqlite::Alter;
 use std::alloc::Global;
 use store::Fault;
 
-/// Returns the response that carries the office's answer to a keying.
+/// Returns the response with the office's answer to a keying.
 fn answered(alloc: Global, answer: &Answer) -> Response
     ensures { IsTold (told_response (told answer.now)) result }
 {
@@ -106,7 +106,7 @@ fn answer_paper(alloc: Global, batch: u32, told: Result<BallotPaper, ReadError>)
     }
 }
 
-/// Reads a resource from the office and returns the response.
+/// Reads a resource from the office, and returns the response.
 fn answer_reading<S: Alter>(alloc: Global, office: &mut Office<S>, what: Resource) -> Response
     ensures answers { HasCleanDisk (state S.Store office.new.held) → office.old.closed ≡ false → (s : OfficeState) → IsAt s (state S.Store office.old.held)
         → Readies s (reading what) result office.new.closed (state S.Store office.new.held) }
@@ -128,7 +128,8 @@ fn answer_reading<S: Alter>(alloc: Global, office: &mut Office<S>, what: Resourc
     }
 }
 
-/// Processes a request in the office and returns the response. Orders aren't carried out here; they get "not found".
+/// Processes a request in the office and returns the response. Orders aren't carried out here; the response to an order is "not
+/// found".
 pub(crate) fn answer<S: Alter>(
     alloc: Global,
     office: &mut Office<S>,

@@ -28,7 +28,7 @@ pub struct Authentication {
     pub is_wrong: bool,
 }
 
-/// Returns the clerk whose number is in a target, whether or not anything is served at that target.
+/// Returns the clerk whose number a target contains, whether or not anything is served at that target.
 fn clerk_under(target: &[u8]) -> Option<u32>
     ensures { result ≡ clerk_under target.now }
 {
@@ -46,7 +46,8 @@ fn clerk_under(target: &[u8]) -> Option<u32>
     }
 }
 
-/// Returns the account whose code a target needs at a gate, whether or not anything is served there; `None` if it needs no code.
+/// Returns the account whose code a target requires at a gate, whether or not anything is served there; `None` if it requires
+/// none.
 pub(crate) fn account_at(gate: Option<Gate<'_>>, target: &[u8]) -> Option<Account>
     ensures { result ≡ account_at (option_map gate_entry gate.entry) target.now }
 {
@@ -71,7 +72,7 @@ fn has_code(gate: Gate<'_>, account: Account, value: &[u8]) -> bool
     }
 }
 
-/// Returns why authentication failed, given the header fields, whose names and values are in a buffer; `None` if it succeeded.
+/// Returns why authentication failed, given the header fields, which refer to a buffer; `None` if it succeeded.
 fn authentication_failure_by(
     gate: Gate<'_>,
     account: Account,

@@ -40,7 +40,7 @@ fn fill<R: Source>(reader: &mut R, room: &mut [u8]) -> Result<bool, Broken>
     Ok(true)
 }
 
-/// Returns a buffer of the given size that begins with these bytes.
+/// Returns a buffer of the given size that begins with the given bytes.
 fn buffer_from(alloc: Global, front: &[u8], size: usize) -> Result<Vec<u8>, AllocError>
     requires { length front.now ≤ size }
     ensures size { IfOk result (λ buffer. vec_len buffer ≡ size) }
@@ -52,11 +52,10 @@ fn buffer_from(alloc: Global, front: &[u8], size: usize) -> Result<Vec<u8>, Allo
     Ok(buffer)
 }
 
-/// Reads a body of the given size. It begins with the bytes already read after the head. Returns `None` if the source ends
-/// before the body does.
+/// Reads a body of the given size. The body begins with the bytes already read after the head. Returns `None` if the source
+/// ends before the body does.
 ///
-/// `Broken` is returned only if the source fails, while the body is still incomplete; the source's failure count is then one
-/// higher.
+/// Returns `Broken` only if the source fails while the body is still incomplete; the source's failure count is then one higher.
 pub(crate) fn read_body<R: Source>(
     alloc: Global,
     reader: &mut R,
@@ -120,7 +119,7 @@ pub(crate) fn list_in(alloc: Global, value: Value) -> Result<Option<Vec<String>>
     }
 }
 
-/// Returns the values of `id`, `papers` and `round`, if an object has exactly these members.
+/// Returns the values of `id`, `papers` and `round`, if the object has exactly these members.
 fn key_members(mut members: Map<String, Value>) -> Option<(Value, Value, Value)>
     ensures { option_map (λ found. (view found.0, view found.1, view found.2)) result ≡ key_members (members_view members.entries) }
 {
@@ -137,7 +136,7 @@ fn key_members(mut members: Map<String, Value>) -> Option<(Value, Value, Value)>
     }
 }
 
-/// Returns the keying made from three values, if each of them has the right type.
+/// Returns the keying made from three values, if each has the correct type.
 fn keying_from(
     alloc: Global,
     id: Value,

@@ -1,4 +1,4 @@
-//! The JSON of the candidates on the papers of a batch.
+//! The JSON for the candidates on a batch's papers.
 
 ghost use Rattle.std.specs.Prelude.{◌≡◌, IfOk, map, string_bytes};
 ghost use Rattle.serde_json.specs.View.{view};
@@ -28,7 +28,7 @@ pub(crate) fn candidates_value(alloc: Global, candidates: &[Candidate]) -> Resul
     Ok(Value::Array(values))
 }
 
-/// Returns the candidates on the papers of a batch, as a JSON value.
+/// Returns the candidates on a batch's papers, as a JSON value.
 fn paper_value(alloc: Global, batch: u32, paper: &BallotPaper) -> Result<Value, AllocError>
     ensures { IfOk result (λ value. view value ≡ paper_data batch (paper_entry paper.now)) }
 {
@@ -38,7 +38,7 @@ fn paper_value(alloc: Global, batch: u32, paper: &BallotPaper) -> Result<Value, 
     })
 }
 
-/// Returns the body for the candidates on the papers of a batch.
+/// Returns the body for the candidates on a batch's papers.
 pub(crate) fn paper_body(
     alloc: Global,
     batch: u32,

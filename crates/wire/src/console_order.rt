@@ -46,7 +46,7 @@ fn files_of(
     Ok(Some(files))
 }
 
-/// Returns the files in a value, if the value is an object of strings with no more members than an order may have files.
+/// Returns the files in a value, if the value is an object of strings and has no more members than an order may have files.
 fn files_in(alloc: Global, value: Value) -> Result<Option<Vec<ConsoleFile>>, AllocError>
     ensures { IfOk result (λ found. option_map (λ files. map console_file_entry files.items) found ≡ files_in (view value)) }
 {
@@ -59,7 +59,7 @@ fn files_in(alloc: Global, value: Value) -> Result<Option<Vec<ConsoleFile>>, All
     }
 }
 
-/// Returns the words in a value, if the value is a list of strings, and their number is allowed for an order.
+/// Returns the words in a value, if the value is a list of strings and isn't too short or too long for an order.
 fn words_in(alloc: Global, value: Value) -> Result<Option<Vec<String>>, AllocError>
     ensures { IfOk result (λ found. option_map (λ words. map string_bytes words.items) found ≡ words_in (view value)) }
 {
@@ -69,7 +69,7 @@ fn words_in(alloc: Global, value: Value) -> Result<Option<Vec<String>>, AllocErr
     }
 }
 
-/// Returns the values of `files` and `words`, if an object has exactly these members.
+/// Returns the values of `files` and `words`, if the object has exactly these members.
 fn order_members(mut members: Map<String, Value>) -> Option<(Value, Value)>
     ensures { option_map (λ found. (view found.0, view found.1)) result ≡ order_members (members_view members.entries) }
 {
@@ -85,7 +85,7 @@ fn order_members(mut members: Map<String, Value>) -> Option<(Value, Value)>
     }
 }
 
-/// Returns the order made from two values, if each of them has the right type.
+/// Returns the order made from two values, if each has the correct type.
 fn order_by(alloc: Global, files: Value, words: Value) -> Result<Option<ConsoleOrder>, AllocError>
     ensures { IfOk result (λ found. option_map console_order_entry found ≡ order_by (view files, view words)) }
 {

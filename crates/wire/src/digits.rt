@@ -8,7 +8,7 @@ ghost use Rattle.wire.specs.Numbers.{number_in};
 
 use std::str;
 
-/// The maximum number of digits of a number in a target.
+/// The maximum number of digits in a target's numbers.
 const MOST_DIGITS: usize = 5;
 
 /// Returns whether all bytes are digits.
@@ -45,7 +45,7 @@ pub(crate) fn number_in(text: &str) -> Option<u32>
     text.parse().ok()
 }
 
-/// Parses such a number from bytes.
+/// Parses a number of that form from bytes.
 pub(crate) fn number_of(text: &[u8]) -> Option<u32>
     ensures { result ≡ number_in text.now }
 {

@@ -1,4 +1,4 @@
-//! The JSON of what a clerk keyed for a batch in an earlier round.
+//! The JSON for what a clerk keyed for a batch in an earlier round.
 
 ghost use Rattle.std.specs.Prelude.{◌≡◌, IfOk, map, option_map};
 ghost use Rattle.serde_json.specs.View.{view};

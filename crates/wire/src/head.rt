@@ -26,8 +26,7 @@ pub(crate) struct Front {
 
 /// Reads until a head is complete. Returns `None` as soon as it can't become one.
 ///
-/// `Broken` is returned only if the source fails, while the head is still incomplete; the source's failure count is then one
-/// higher.
+/// Returns `Broken` only if the source fails while the head is still incomplete; the source's failure count is then one higher.
 pub(crate) fn read_head<R: Source>(
     reader: &mut R,
     buffer: &mut [u8],

@@ -35,7 +35,7 @@ pub(crate) fn is_named(name: &[u8], other: &[u8]) -> bool
     name.eq_ignore_ascii_case(other)
 }
 
-/// Returns the value of the header with this name, if there is one. Returns `BadRequest` if there are several.
+/// Returns the value of the header with the given name, if there is one. Returns `BadRequest` if there are several.
 pub(crate) fn value_of<'b>(
     buffer: &'b [u8],
     headers: &[HeaderSpan],
@@ -57,8 +57,8 @@ pub(crate) fn value_of<'b>(
     Ok(found)
 }
 
-/// Returns the length of a body according to the header fields, whose names and values are in a buffer. It is 0 if no length is
-/// sent. A transfer coding is an error, and so is more than one length.
+/// Returns the length of a body according to the header fields, which refer to a buffer. The length is 0 if none is sent. A
+/// transfer coding is an error, and so are two lengths.
 pub(crate) fn body_length(buffer: &[u8], headers: &[HeaderSpan]) -> Result<usize, RequestError>
     requires { All (IsHeaderWithin (length buffer.now)) headers.now }
     ensures is { result ≡ body_length (map (header_bytes buffer.now) headers.now) }

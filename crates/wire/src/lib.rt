@@ -15,22 +15,21 @@
 //! one connection from any reader; it reads the request ([`read_request`]) through the same `Head`.
 //!
 //! [`HttpSettings`] are the HTTP settings: the [`Origin`] of pages that come through a proxy, the [`Gate`], and what is shown
-//! in public ([`Public`]), if any. [`without_settings`] serves a connection without any of them. A request with a header which
-//! shows that a page from another site sent it is rejected. At a gate, everything under a clerk's number requires that clerk's
-//! code, and everything under `/office/` requires the office's. [`write_wait_response`] writes the response to a rate-limited
-//! client.
+//! in public ([`Public`]), if any. [`without_settings`] serves a connection without any of them. A request is rejected if a
+//! header shows that a page from another site sent it. At a gate, everything under a clerk's number requires that clerk's code,
+//! and everything under `/office/` requires the office's. [`write_wait_response`] writes the response to a rate-limited client.
 //!
-//! `specs/Requests.antt` defines what a client's bytes ask for, `specs/Completeness.antt` when they make a complete request,
-//! and `specs/Parsing.antt` what a parsed head says about them. `specs/Gates.antt` defines authentication, and
-//! `specs/Origins.antt` which headers show that a page from another site sent the request. `specs/Targets.antt`,
-//! `specs/OfficeTargets.antt` and `specs/PublicTargets.antt` define what a target names, and `specs/Responses.antt` the bytes
-//! of a response. `specs/Serving.antt` defines the response at each state of the office, and what each outcome of a connection
-//! leaves; `specs/OfficeReplies.antt` the JSON of the console's reads, and `specs/PublicReplies.antt` what is shown in public.
+//! `specs/Requests.antt` defines what a client's bytes ask for, `specs/Completeness.antt` when the request is complete, and
+//! `specs/Parsing.antt` what a parsed head says about it. `specs/Gates.antt` defines authentication, and `specs/Origins.antt`
+//! which headers show that a page from another site sent the request. `specs/Targets.antt`, `specs/OfficeTargets.antt` and
+//! `specs/PublicTargets.antt` define what a target names, and `specs/Responses.antt` the bytes of a response.
+//! `specs/Serving.antt` defines the response in each state of the office, and what each outcome of a connection leaves;
+//! `specs/OfficeReplies.antt` the JSON of the console's reads, and `specs/PublicReplies.antt` what is shown in public.
 //!
 //! ```text
 //! let parsed = parse(settings, &routes, got);
 //! match parsed.completeness_of(got.len()) {
-//!     Completeness::AtLeast(wanted) => ..,     // more is to come
+//!     Completeness::AtLeast(wanted) => ..,     // more bytes are needed
 //!     Completeness::Complete => respond(alloc, parsed.asked(alloc, settings, got)?, &mut writer, &mut office),
 //! }
 //! ```

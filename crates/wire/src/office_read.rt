@@ -25,7 +25,7 @@ pub enum OfficeRead {
     Batches { ward: u32 },
     /// The doubtful papers of a ward.
     Doubtful { ward: u32 },
-    /// The papers on which the keyings of a batch differ.
+    /// The papers on which a batch's keyings differ.
     Differences { batch: u32 },
     /// The papers of a batch, and how each counts.
     Papers { batch: u32 },
@@ -47,7 +47,7 @@ pub(crate) fn after_digits(text: &[u8]) -> &[u8]
     &text[digits_length(text)..]
 }
 
-/// Returns the read of a ward, given what follows its number.
+/// Returns the read of a ward, given the part of the target after its number.
 fn of_ward(rest: &[u8], ward: u32) -> Option<OfficeRead>
     ensures { result ≡ of_ward rest.now ward }
 {
@@ -63,7 +63,7 @@ fn of_ward(rest: &[u8], ward: u32) -> Option<OfficeRead>
     None
 }
 
-/// Returns the read of a batch, given what follows its number.
+/// Returns the read of a batch, given the part of the target after its number.
 fn of_batch(rest: &[u8], batch: u32) -> Option<OfficeRead>
     ensures { result ≡ of_batch rest.now batch }
 {
@@ -76,7 +76,7 @@ fn of_batch(rest: &[u8], batch: u32) -> Option<OfficeRead>
     None
 }
 
-/// Returns the read of a ward, given what follows the prefix.
+/// Returns the read of a ward, given the part of the target after the prefix.
 fn ward_read(behind: &[u8]) -> Option<OfficeRead>
     ensures { result ≡ ward_read behind.now }
 {
@@ -86,7 +86,7 @@ fn ward_read(behind: &[u8]) -> Option<OfficeRead>
     }
 }
 
-/// Returns the read of a batch, given what follows the prefix.
+/// Returns the read of a batch, given the part of the target after the prefix.
 fn batch_read(behind: &[u8]) -> Option<OfficeRead>
     ensures { result ≡ batch_read behind.now }
 {

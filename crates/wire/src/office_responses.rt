@@ -1,4 +1,4 @@
-//! Responses that carry the office's answer: a reply, a value, a refusal or a fault.
+//! Responses with the office's answer: a reply, a value, a refusal or a fault.
 
 ghost use Rattle.std.specs.Prelude.{◌≡◌, IfOk, false, string_bytes};
 ghost use Rattle.serde_json.specs.Data.{Data};

@@ -38,14 +38,14 @@ fn is_own_origin(given: Option<Origin<'_>>, value: &[u8]) -> bool
         || is_set_origin(given, value)
 }
 
-/// Returns whether a value says that the request was sent by a page of the same origin, or by the user directly.
+/// Returns whether a value says that the request was sent by a page from the same origin, or by the user directly.
 fn is_own_site(value: &[u8]) -> bool
     ensures { result ≡ is_own_site value.now }
 {
     value == b"same-origin".as_slice() || value == b"none".as_slice()
 }
 
-/// Returns whether a value is a name without a dot, 127.0.0.1, or the host of the origin in the settings.
+/// Returns whether a value is a host name without a dot, 127.0.0.1, or the host of the origin in the settings.
 fn is_own_host(given: Option<Origin<'_>>, value: &[u8]) -> bool
     ensures { result ≡ is_own_host (origin_setting given.entry) value.now }
 {
@@ -65,7 +65,7 @@ fn is_foreign_header(given: Option<Origin<'_>>, name: &[u8], value: &[u8]) -> bo
     is_named(name, b"host") && !is_own_host(given, value)
 }
 
-/// Returns whether any of these headers, whose names and values are in a buffer, is foreign in that sense.
+/// Returns whether any of the given headers, which refer to a buffer, is foreign in that sense.
 pub(crate) fn is_foreign(given: Option<Origin<'_>>, buffer: &[u8], headers: &[HeaderSpan]) -> bool
     requires { All (IsHeaderWithin (length buffer.now)) headers.now }
     ensures { result ≡ is_foreign (origin_setting given.entry) (map (header_bytes buffer.now) headers.now) }

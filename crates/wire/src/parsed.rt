@@ -1,4 +1,4 @@
-//! A parsed request. Its head is parsed once, and everything except the text of the body is decided from the result.
+//! A parsed request. The head is parsed once, and the result determines everything except the text of the body.
 
 ghost use Rattle.std.specs.Prelude.{◌≡◌, ◌≤◌, ◌++◌, IfOk, IfSome, List, Some, ℕ, length, map, option_map, take};
 ghost use Rattle.httparse.specs.Spans.{IsRequestWithin, header_bytes, span_bytes};
@@ -34,18 +34,18 @@ pub struct Head {
     pub(crate) authentication: Option<Authentication>,
     /// The length of the body in bytes, or why it isn't accepted.
     pub(crate) body: Result<usize, RequestError>,
-    /// The length of the head itself, in bytes.
+    /// The length of the head, in bytes.
     pub(crate) size: usize,
 }
 
-/// The result of parsing the bytes received of a request.
+/// The result of parsing the bytes received so far.
 #[derive(Clone, Copy)]
 pub enum Parsed {
     /// The head is complete.
     Head(Head),
     /// The head isn't complete yet.
     Partial,
-    /// The bytes don't begin with a head, whatever follows.
+    /// The bytes don't begin with a head, whatever follows them.
     Malformed,
 }
 
@@ -138,7 +138,7 @@ impl Head {
         }
     }
 
-    /// Returns what this head and the bytes that follow it ask for. The only error is a failed allocation.
+    /// Returns what this head and the bytes after it ask for. The only error is a failed allocation.
     pub(crate) fn asked_with<'a>(
         &self,
         alloc: Global,
@@ -209,7 +209,7 @@ pub fn parse(settings: HttpSettings<'_>, routes: &Routes, got: &[u8]) -> Parsed
 }
 
 impl Parsed {
-    /// Returns whether the request is complete, given that `come` bytes of it were received.
+    /// Returns whether the request is complete once `come` bytes of it have been received.
     ///
     /// What a complete request asks for doesn't depend on the bytes that follow it.
     pub fn completeness_of(&self, come: usize) -> Completeness
@@ -271,8 +271,8 @@ impl Parsed {
         }
     }
 
-    /// Returns how many bytes of the body are still to come once `come` bytes of the request were received. The length of the
-    /// body is the one in the head, or 1 MiB if that length isn't accepted. Returns 0 if there is no complete head.
+    /// Returns how many bytes of the body are still missing once `come` bytes of the request have been received. The length of
+    /// the body is the length stated in the head, or 1 MiB if that isn't accepted. Returns 0 if there is no complete head.
     ///
     /// The server reads that many more bytes before it closes the connection. Otherwise the system would reset the connection,
     /// and a proxy would report the reset instead of the response.

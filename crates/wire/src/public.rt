@@ -28,9 +28,9 @@ use std::alloc::{AllocError, Global};
 use store::WardOverview;
 
 /// States, for callers, what the public pages depend on: the table of wards and the elections of sealed wards, and nothing
-/// else. Two offices that agree on these show the same. So until a ward is sealed, nothing that is nominated, given out, keyed
-/// or judged in it changes what is shown. The list of wards depends only on the table of wards; for an unsealed ward it has the
-/// ward's number, name and phase, and no stage.
+/// else. Two offices that agree on these have the same public pages. So until a ward is sealed, nothing that is nominated,
+/// given out, keyed or judged in it changes what is shown. The list of wards depends only on the table of wards; for an
+/// unsealed ward it has the ward's number, name and phase, and no stage.
 pub fn unsealed_wards_show_nothing()
     ensures alike { AlikeShowAlike }
     ensures wards { (title : List ℕ) → RestsOnWards title }
@@ -86,7 +86,7 @@ fn answer_printed(alloc: Global, told: Result<String, ReadError>) -> Response
     }
 }
 
-/// Reads something that is shown in public and returns the response. A closed office stays as it is.
+/// Reads something that is shown in public, and returns the response. A closed office stays as it is.
 pub(crate) fn answer_public<S: Alter>(
     alloc: Global,
     office: &mut Office<S>,

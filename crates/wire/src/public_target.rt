@@ -15,13 +15,13 @@ pub enum PublicTarget {
     Index,
     /// The page for the screen in the hall.
     Screen,
-    /// All wards, as read by that page.
+    /// All wards, as the page for the screen reads them.
     Wards,
     /// The page of a ward.
     Page { ward: u32 },
 }
 
-/// Returns the page of a ward, given what follows the prefix.
+/// Returns the page of a ward, given the part of the target after the prefix.
 fn page_after_prefix(behind: &[u8]) -> Option<PublicTarget>
     ensures { result ≡ page_after_prefix behind.now }
 {
@@ -34,7 +34,7 @@ fn page_after_prefix(behind: &[u8]) -> Option<PublicTarget>
     None
 }
 
-/// Returns the page of a ward, if the target is that of a ward page.
+/// Returns the page of a ward, if the target names one.
 fn ward_page_by(target: &[u8]) -> Option<PublicTarget>
     ensures { result ≡ ward_page_by target.now }
 {

@@ -39,7 +39,7 @@ use ward::answer_ward;
 use wards::answer_wards;
 pub(crate) use wards::phase_word;
 
-/// Performs a read for the officer's console and returns the response. A closed office stays as it is.
+/// Performs a read for the officer's console, and returns the response. A closed office stays as it is.
 pub(crate) fn answer_office<S: Alter>(
     alloc: Global,
     office: &mut Office<S>,

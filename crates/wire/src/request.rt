@@ -24,7 +24,7 @@ use std::alloc::Global;
 use streams::Source;
 
 /// A clerk's keying of a batch in a round: its id, and the marks text of each paper. The numbers of the clerk and the batch
-/// have 1 to 5 digits, and the round is any 32-bit number. Whether they are in range is decided when the keying is handled.
+/// have 1 to 5 digits, and the round is any 32-bit number. Whether they are in range is checked when the keying is handled.
 #[derive(Drop)]
 pub struct Keying {
     pub clerk: u32,
@@ -137,7 +137,7 @@ impl Target {
     }
 }
 
-/// Returns what a target names, if that is served with this gate, or without a gate.
+/// Returns what a target names, if it is served with the given gate, or without one.
 fn served_with_gate(gate: Option<Gate<'_>>, routes: &Routes, target: &[u8]) -> Option<Target>
     ensures { result ≡ served_with_gate (option_map gate_entry gate.entry) (named_by target.now) }
 {
@@ -149,7 +149,7 @@ fn served_with_gate(gate: Option<Gate<'_>>, routes: &Routes, target: &[u8]) -> O
     if is_served { Some(there) } else { None }
 }
 
-/// Returns what a target names, if that is served under these settings.
+/// Returns what a target names, if it is served under the given settings.
 pub(crate) fn served_at(
     settings: HttpSettings<'_>,
     routes: &Routes,
@@ -164,7 +164,7 @@ pub(crate) fn served_at(
     Some(there)
 }
 
-/// Returns what is requested, if the method is the one that the target allows; otherwise why the request is rejected.
+/// Returns what is requested, if the target allows the method; otherwise why the request is rejected.
 pub(crate) fn asked_for(method: &[u8], there: Option<Target>) -> Result<Target, RequestError>
     ensures { result ≡ asked_for method.now there }
 {
@@ -179,7 +179,7 @@ pub(crate) fn asked_for(method: &[u8], there: Option<Target>) -> Result<Target, 
     }
 }
 
-/// Returns the request for a gate's page, shown to a clerk; without a gate, the request is rejected.
+/// Returns the request to show a clerk the gate's page; without a gate, the request is rejected.
 pub(crate) fn page_at<'a>(gate: Option<Gate<'a>>, clerk: u32) -> HttpRequest<'a>
     ensures { http_request_entry result ≡ page_at (option_map gate_entry gate.entry) clerk }
 {
@@ -189,7 +189,7 @@ pub(crate) fn page_at<'a>(gate: Option<Gate<'a>>, clerk: u32) -> HttpRequest<'a>
     }
 }
 
-/// Returns the request for a gate's console; without a gate, the request is rejected.
+/// Returns the request to show the gate's console; without a gate, the request is rejected.
 pub(crate) fn console_at<'a>(gate: Option<Gate<'a>>) -> HttpRequest<'a>
     ensures { http_request_entry result ≡ console_at (option_map gate_entry gate.entry) }
 {
@@ -199,7 +199,7 @@ pub(crate) fn console_at<'a>(gate: Option<Gate<'a>>) -> HttpRequest<'a>
     }
 }
 
-/// Returns the request for something that is shown in public; if nothing is, the request is rejected.
+/// Returns the request to show something in public; if nothing is shown in public, the request is rejected.
 pub(crate) fn public_at<'a>(public: Option<Public<'a>>, what: PublicTarget) -> HttpRequest<'a>
     ensures { http_request_entry result ≡ public_at (option_map public_entry public.entry) what }
 {
@@ -264,23 +264,23 @@ fn read_from_head<'a, R: Source>(
 /// Reads a request and returns what it asks for under the given settings: the origin of pages that come through a proxy, the
 /// gate, and what is shown in public, if any.
 ///
-/// A request with a header which shows that a page from another site sent it, or that it was addressed to a foreign host name,
-/// is `Forbidden`, whatever it asks for. At a gate, a request whose target begins with a clerk's number, such as `/clerks/4/`,
-/// is accepted only with that clerk's code. A request whose target begins with `/office/` is accepted only with the office's
-/// code, if the office has one. Otherwise it is `Unauthorized` or `WrongCode`, whatever it asks for. So only the holder of a
-/// clerk's code can ask for anything under that clerk's number, and only the holder of the office's code can ask for anything
-/// on the console. No other request is checked in this way. The response to a rejected request is the same at every state of
-/// the office, and so are those to a `ClerkPage` and a `ConsolePage`. What is shown in public needs no code, and is served only
-/// if the settings have it.
+/// A request is `Forbidden`, whatever it asks for, if a header shows that a page from another site sent it or that it was
+/// addressed to a foreign host name. At a gate, a request whose target begins with a clerk's number, such as `/clerks/4/`, is
+/// accepted only with that clerk's code. A request whose target begins with `/office/` is accepted only with the office's code,
+/// if the office has one. Otherwise it is `Unauthorized` or `WrongCode`, whatever it asks for. So only the holder of a clerk's
+/// code can ask for anything under that clerk's number, and only the holder of the office's code can ask for anything on the
+/// console. No other request is checked this way. The response to a rejected request is the same in every state of the office,
+/// and so are the responses to a `ClerkPage` and a `ConsolePage`. What is shown in public needs no code, and is served only if
+/// the settings have it.
 ///
-/// `Broken` is returned only if the source fails, while what was read doesn't yet determine what is requested; the source's
+/// Returns `Broken` only if the source fails while the bytes read so far don't determine what is requested; the source's
 /// failure count is then one higher. Once the request is known, nothing more is read, because the client may be waiting for its
-/// response. Some of the bytes that follow the request may have been read.
+/// response. Some of the bytes after the request may have been read already.
 ///
-/// What is requested depends only on the target, which names exactly what it is the path of. That path is one of the eight
-/// routes of this crate, with numbers of 1 to 5 digits without leading zeros. Or it is `/office/`, `/office/leave`,
-/// `/office/orders` or the path of a read of the console; or `/`, `/screen`, `/screen/wards` or the path of a ward's page. Any
-/// other target names nothing.
+/// What is requested depends only on the target. A target names something if and only if the target is its path. That path is
+/// one of the eight routes of this crate, with numbers of 1 to 5 digits without leading zeros. Or it is `/office/`,
+/// `/office/leave`, `/office/orders` or the path of one of the console's reads; or `/`, `/screen`, `/screen/wards` or the path
+/// of a ward's page. Any other target names nothing.
 pub fn read_request<'a, R: Source>(
     alloc: Global,
     settings: HttpSettings<'a>,

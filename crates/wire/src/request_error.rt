@@ -20,10 +20,10 @@ pub enum RequestError {
     NotFound,
     /// Its target is served only with another method.
     MethodNotAllowed { allowed: Verb },
-    /// Its body is longer than the limit.
+    /// Its body exceeds the size limit.
     TooLarge,
-    /// It needs this account's code, and carries none.
+    /// It needs this account's code, but carries none.
     Unauthorized(Account),
-    /// It needs this account's code, and carries another one, or several.
+    /// It needs this account's code, but carries a different one, or several.
     WrongCode(Account),
 }

@@ -71,7 +71,7 @@ const TOO_LARGE: &str =
 const WAITS: &str =
     "HTTP/1.1 429 Too Many Requests\r\nContent-Type: application/json\r\nContent-Length: 32\r\nRetry-After: 60\r\nConnection: close\r\n\r\n{\"error\":\"too many wrong codes\"}";
 
-/// The response while the file of the office is gone or replaced.
+/// The response when the file of the office is gone or replaced.
 const GONE: &str =
     "HTTP/1.1 503 Service Unavailable\r\nContent-Type: application/json\r\nContent-Length: 13\r\nConnection: close\r\n\r\n{\"fault\":113}";
 
@@ -86,7 +86,7 @@ const SIGNED_OUT: &str =
 /// The response to a request without a code or with the wrong one.
 const NO_CODE: &str = "{\"error\":\"unauthorized\"}";
 
-/// The response after a failed allocation. It is constant, so it needs no allocation itself.
+/// The response when an allocation failed. It is constant, so it needs no allocation itself.
 const NO_MEMORY: &str =
     "HTTP/1.1 503 Service Unavailable\r\nContent-Type: application/json\r\nContent-Length: 13\r\nConnection: close\r\n\r\n{\"fault\":101}";
 
@@ -94,7 +94,7 @@ const NO_MEMORY: &str =
 const PRINTED_POLICY: &str =
     "default-src 'none'; style-src 'unsafe-inline'; base-uri 'none'; form-action 'none'; frame-ancestors 'none'";
 
-/// Returns the response to a request whose method isn't the one served.
+/// Returns the response to a request with a method that the target doesn't allow.
 fn only_text(allowed: Verb) -> &'static str
     ensures { result.now ≡ response_bytes (denied_response (RequestError.MethodNotAllowed allowed)) }
 {
@@ -177,7 +177,7 @@ fn realm_of(alloc: Global, account: Account) -> Result<String, AllocError>
 }
 
 #[tactic(auto, unfolding(crate::specs::Responses::code_line))]
-/// Returns the header line that requests the code of a realm.
+/// Returns the header line that requests the code for a realm.
 fn code_line(alloc: Global, realm: &str) -> Result<String, AllocError>
     ensures { IfOk result (λ text. string_bytes text ≡ code_line realm.now) }
 {
@@ -257,7 +257,7 @@ fn page_response_text(alloc: Global, page: Page<'_>) -> Result<String, AllocErro
 }
 
 impl Response {
-    /// Returns the response with this status and text, or the out-of-memory response if the text couldn't be allocated.
+    /// Returns the response with the given status and text, or the out-of-memory response if the text couldn't be allocated.
     fn of_text(status: u16, text: Result<String, AllocError>) -> Response
         ensures told { IfOk text (λ made. (result.status ≡ status) × (told_bytes result.bytes ≡ string_bytes made)) }
         ensures memory { OnErr text (IsWritten (fault_response 101) result) }
@@ -322,7 +322,7 @@ impl Response {
         }
     }
 
-    /// Returns the response while the file of the office is gone or replaced.
+    /// Returns the response when the file of the office is gone or replaced.
     pub(crate) fn gone() -> Response
         ensures { IsWritten (fault_response 113) result }
     {
@@ -332,7 +332,7 @@ impl Response {
         }
     }
 
-    /// Returns the response to an order whose output isn't UTF-8 and therefore can't be sent (107).
+    /// Returns the response to an order whose output isn't UTF-8, and so can't be sent (107).
     pub fn output_failed() -> Response
         ensures { IsWritten (fault_response 107) result }
     {

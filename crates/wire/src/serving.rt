@@ -113,18 +113,19 @@ pub fn respond<W: Sink, S: Alter>(
 
 /// Serves one connection: reads a request, processes it in the office, and writes the response.
 ///
-/// `Answered`: the response to the request in the reader's bytes was written completely, the office is at the state after the
+/// `Answered`: the response to the request in the reader's bytes was written completely, the office is in the state after the
 /// request, and neither the reader nor the writer failed. After a fault of the office, the response is that fault (503). The
 /// office is then as it was; or it is closed, and a stop leaves the state before the request or, if the request was accepted,
-/// the state after it. The response is 101 (503) if an allocation failed. If that was for the request, it wasn't sent to the office;
-/// if it was for the response, the office is at the state after the request. In the office it is as with any fault.
+/// the state after it. The response is 101 (503) if an allocation failed. If that was for the request, it wasn't sent to the
+/// office; if it was for the response, the office is in the state after the request. If it was in the office, it is a fault
+/// like any other.
 ///
-/// `ReadFailed` is returned only if the reader failed while what was read didn't yet determine what is requested; the reader's
+/// Returns `ReadFailed` only if the reader failed while the bytes read so far didn't determine what is requested; the reader's
 /// failure count is then one higher. There is no response to a failed read: nothing was written, and the office is as it was.
-/// `WriteFailed` is returned only if the writer failed; its failure count is then one higher, and the reader's is unchanged. A
-/// prefix of the response was written, the write isn't repeated, and the office's answer remains valid. A closed office answers
-/// anything it is asked with the fault for a closed office, 104 (503), and stays as it is. The response to a rejected request,
-/// such as one from a page on another site, is the same at every state, and so is a page that is shown.
+/// Returns `WriteFailed` only if the writer failed; its failure count is then one higher, and the reader's is unchanged. A
+/// prefix of the response was written, the write isn't repeated, and the office's answer remains valid. A closed office
+/// responds to everything it is asked with the fault for a closed office, 104 (503), and stays as it is. The response to a
+/// rejected request, such as one from a page on another site, is the same in every state, and so is a page that is shown.
 pub fn serve_one<R: Source, W: Sink, S: Alter>(
     alloc: Global,
     settings: HttpSettings<'_>,

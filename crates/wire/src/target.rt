@@ -16,7 +16,7 @@ use std::str;
 /// A resource that can be read.
 #[derive(Clone, Copy, Debug, PartialEq, Eq)]
 pub enum Resource {
-    /// The batches that a clerk is to key.
+    /// The batches that a clerk has been given to key.
     Work { clerk: u32 },
     /// The candidates on the papers of a batch that a clerk keys.
     Candidates { clerk: u32, batch: u32 },
@@ -30,21 +30,21 @@ pub enum Resource {
     Office(OfficeRead),
 }
 
-/// What a target of the officer's console names.
+/// What a target on the officer's console names.
 #[derive(Clone, Copy, Debug, PartialEq, Eq)]
 pub(crate) enum OfficeTarget {
     /// The console.
     ConsolePage,
     /// Signing the office out.
     Leave,
-    /// The orders, to be submitted.
+    /// Where orders are submitted.
     Orders,
 }
 
 /// What a target names.
 #[derive(Clone, Copy)]
 pub(crate) enum Target {
-    /// A clerk's keying of a batch, to be submitted.
+    /// Where a clerk's keying of a batch is submitted.
     Keying { clerk: u32, batch: u32 },
     /// The page on which a clerk keys.
     Page { clerk: u32 },
@@ -174,7 +174,7 @@ impl Routes {
         }
     }
 
-    /// Returns what a target names by its route, if it has one. Allocates nothing.
+    /// Returns what a target names according to its route, if it has one. Allocates nothing.
     fn routed_by(&self, target: &[u8]) -> Option<Target>
         ensures { result ≡ routed_by target.now }
     {

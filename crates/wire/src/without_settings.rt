@@ -1,4 +1,4 @@
-//! One connection to an office that has no settings for its clients: neither an origin nor codes.
+//! Serving a connection without settings for clients: neither an origin nor codes.
 
 ghost use Rattle.std.specs.Prelude.{◌≡◌, ◌+◌, ◌-◌, ◌^◌, ◌<◌, true, false};
 ghost use Rattle.sqlite.specs.State.{HasCleanDisk};

@@ -1,4 +1,4 @@
-//! The JSON of a clerk's work.
+//! The JSON for a clerk's work.
 
 ghost use Rattle.std.specs.Prelude.{◌≡◌, IfOk, map, string_bytes};
 ghost use Rattle.serde_json.specs.View.{view};

@@ -6,6 +6,7 @@ Tellers' keyings are dropped on the console as files, and one is typed as an ord
 - Each order is done once, though the connection breaks after it was done, the server stops and starts again, the page is reloaded while an
   order is being sent, or two consoles confirm the same stage at once.
 - What was typed is still there after a reload. An order that was typed in a terminal is shown.
+- Enter in a field leaves the field, and sends nothing. A teller's file for a round after the first is sent only if the officer confirms it.
 - While nothing changes, the console requests nothing but the list of wards. It never requests what isn't in docs/formats/console-api.md.
 - Each file that is downloaded or printed is what the order of that name prints.
 - If the office's file is gone, the console says so and what to do.
@@ -59,14 +60,15 @@ def compare(evening):
 def nominations(officer):
     officer.click("step none")
     for number, name in ((7, "Harbour"), (8, "Quay")):
-        officer.fill("ward", number=number, seats=2, name=name).keys("Enter")
+        officer.type("ward-number", number).keys("Enter").until("document.activeElement.id === 'ward-seats'")
+        officer.fill("ward", seats=2, name=name).send()
         if number == 7:
             officer.asked("Add ward 7").pictured("2-ask-ward")
         officer.yes(f"Add ward {number}", name, "2 seats")
     officer.go("nominations", 7).fill("candidate", number=1, name="Ann").reload()
     if officer.shows("Updated at", "health").value("document.getElementById('candidate-name').value") != "Ann":
         raise Wrong("what was typed is lost")
-    officer.fill("candidate", name="Ann").keys("Enter").shows("candidate 1 of ward 7 added")
+    officer.fill("candidate", name="Ann").send().shows("candidate 1 of ward 7 added")
     officer.drop("drop-candidates", names=[*NAMES[:3], "7,3,Dee", *NAMES[4:]]).shows("This number is in the file twice", "preview")
     officer.pictured("3-preview-wrong").drop("drop-candidates", names=NAMES).shows("Will be added", "preview")
     officer.evening.line.cuts = 1
@@ -80,7 +82,7 @@ def nominations(officer):
 def papers(officer):
     officer.go("overview").type("expected 7", 14).go("batches", 7).until("document.getElementById('give').open")
     officer.fill("give", **{"from": 12}, count=2, size=8, last=6, clerks="4 9").shows("14 of 14 expected papers", "give-preview")
-    officer.pictured("6-giving-out").keys("Enter")
+    officer.pictured("6-giving-out").send()
     officer.yes("2 batches, 14 papers", "Batch 12", "8 papers", "Batch 13", "6 papers", "Tellers 4 and 9")
     officer.tab_to("bring").keys("Enter").drop("drop-keyings", k4_12=[HEAD[12][4], *TWELVE[:3], "4,1,,2", *TWELVE[4:]])
     officer.shows("file fault 2 at record 4", "brought").pictured("7-file-fault")
@@ -94,14 +96,17 @@ def papers(officer):
     officer.shows("Agreed", "batch-list").go("overview").shows("1 batch differs", "steps").pictured("9-overview-differs")
     officer.click("step batches 7").click("where 13").shows("paper 5", "batch-list").pictured("10-where")
     officer.click("again 13").yes("round 2", "tellers 4 and 9")
-    officer.drop("drop-keyings", k4_13=[HEAD[13][4], *THIRTEEN], k9_13=[HEAD[13][9], *OTHER])
+    # No file says which round it is of: the console asks before it sends one for round 2.
+    officer.drop("drop-keyings", k4_13=[HEAD[13][4], *THIRTEEN]).asked("teller 4", "batch 13 for round 2", "k4-13.csv").keys("Escape")
+    officer.shows("round 2: canceled", "brought").drop("drop-keyings", k4_13=[HEAD[13][4], *THIRTEEN], k9_13=[HEAD[13][9], *OTHER])
+    officer.yes("teller 4", "round 2", said="by teller 4").yes("teller 9", "round 2", said="by teller 9")
     officer.shows("teller 9, round 2: accepted", "brought").click("third 13").asked("third teller").keys("9").pictured("11-third")
     officer.keys("Enter").shows("doesn\u2019t key this batch yet")
     # The third teller is added on a second console, while the first one shows the batch.
     with officer.another():
         officer.load("#batches/7").click("third 13").asked("third teller").keys("5", "Enter").shows("batch 13 third clerk 5")
     officer.until("![...document.querySelectorAll('[data-key]')].some((it) => it.dataset.key === 'third 13')")
-    officer.drop("drop-keyings", k5_13=[HEAD[13][5], *THIRTEEN]).shows("teller 5, round 2: accepted", "brought")
+    officer.drop("drop-keyings", k5_13=[HEAD[13][5], *THIRTEEN]).yes("teller 5", "round 2").shows("teller 5, round 2: accepted", "brought")
     officer.click("papers 12").shows("Rejected: no first preference", "batch-list").pictured("12-read-back")
 
 
@@ -187,7 +192,7 @@ def file_gone(officer):
     """While the office's file is gone, the console says so and what to do, and sends again. Once it is back, what was sent is done."""
     town = officer.evening.office.folder / TOWN
     away = town.rename(town.with_suffix(".away"))
-    officer.go("nominations").fill("ward", number=9, seats=2, name="Shore").keys("Enter").asked("Add ward 9").keys("y")
+    officer.go("nominations").fill("ward", number=9, seats=2, name="Shore").send().asked("Add ward 9").keys("y")
     officer.shows("fault 113", "unsent").pictured("29-file-gone").click("send-again").shows("fault 113", "unsent")
     away.rename(town)
     officer.shows("ward 9 added")

@@ -1,7 +1,8 @@
 """Plays the officer's console in Chromium with hostile names, refusals, an evening of twelve tellers, and the largest office.
 
 - *Names* that look like markup, that change the direction of writing, or that have 120 bytes are shown as names, and break no line's
-  direction. Before that, another office is served at the same address: the console asks whether it is the right one, and sends nothing.
+  direction. Before that, another office is served at the same address: the console asks whether it is the right one, sends nothing, and keeps
+  what was typed and still fits.
 - *Refused*: a script of batches stops halfway, and the rest goes to the tellers whose turn it is. A file is too large. Anyone who signed
   out is asked for the code.
 - *Twelve tellers* key 22 batches, some of which differ. 19 doubtful papers are judged by keyboard, and each lot is recorded.
@@ -12,6 +13,7 @@ needs `chromium`, `chromium-driver` and `python3-selenium`.
 """
 import json
 import random
+import shlex
 import time
 from pathlib import Path
 
@@ -42,18 +44,22 @@ def names(officer):
     """Shows names that look like markup, change the direction of writing or have 120 bytes: as names, and within the window."""
     name = HOSTILE[0] + HOSTILE[1]
     valid = [",".join({0: "1", 1: "2"}.get((place - number) % 8, "") for place in range(8)) for number in range(12)]
-    officer.evening.another(ward_orders(candidates=numbered(3), ward=1, name="Before"), "before")
-    officer.log_in().open("about:blank")
+    officer.evening.another([*ward_orders(candidates=numbered(3), ward=1, name="Before"), f"ward 9 3 {shlex.quote(name)} --id w9"], "before")
+    officer.log_in().type("expected 1", 30).type("expected 9", 14).go("nominations", 9).fill("candidate", name="Ann").open("about:blank")
     officer.evening.another([*ward_orders((1, 14, 4, 9), candidates=HOSTILE, seats=3, ward=9, name=name), *keyed(1, ["D", "D", *valid])])
     officer.load("#nominations/9").shows("This isn\u2019t the office that this browser used last", "other").pictured("39-other-office")
-    officer.value("document.querySelector('#other button').click()")
-    officer.until("document.getElementById('other').hidden")
+    if "expected in ward 1" not in (text := officer.value("document.getElementById('other').innerText")) or "ward 9" in text:
+        raise Wrong(f"what is discarded: {text!r}")
+    officer.click("right-office").until("document.getElementById('other').hidden")
+    kept = officer.value("[stored('expected 1'), stored('expected 9'), document.getElementById('candidate-name').value]")
+    if kept != [None, 14, "Ann"]:
+        raise Wrong(f"of what was typed the console kept {kept}")
     for part, words, where in (("nominations", "AAAA", "nominated"), ("doubtful", "Batch 1, paper 1", "judging")):
         officer.go(part, 9).shows(words, where).pictured(f"40-names-{part}")
     officer.leave_field().keys("1", "2", "8", "Enter").asked("First preference: 1", "Third preference: 8").pictured("41-names-ask")
     officer.yes(said="batch 1 paper 1 accepted").keys("7", "Enter")
     officer.yes("First preference: 7", "2 Bob", said="batch 1 paper 2 accepted").pictured("42-names-judged")
-    officer.go("count", 9).click("seal").yes("Seal anyway", said="ward 9 sealed")
+    officer.go("count", 9).click("seal").yes("All expected papers were given out: 14", said="ward 9 sealed")
     officer.click("count").yes(said="lot needed at stage 2").pictured("43-names-lot")
     counted(officer, 9)
     officer.pictured("44-names-declared").go("overview").shows("All wards are declared", "steps").pictured("45-names-overview")
@@ -78,7 +84,7 @@ def counted(officer, ward):
 def give_out(officer, ward, **fields):
     """Fills in the form for giving out batches, and sends it."""
     officer.go("batches", ward).value("(document.getElementById('give').open = true)")
-    officer.fill("give", **fields).keys("Enter")
+    officer.fill("give", **fields).send()
 
 
 def evening_of_tellers(officer):

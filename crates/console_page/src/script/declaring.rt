@@ -1,6 +1,6 @@
 //! Part of the script: the declaration, and what is printed and downloaded.
 
-/// Declares the declaration of a result, and how texts of a ward are printed and downloaded.
+/// Declares how a result is declared, and how a ward's texts are printed and downloaded.
 pub(crate) const DECLARING: &str = r#"// ---- the declaration
 
 // Returns who is elected in a ward whose count is finished: all candidates if the ward is uncontested, otherwise those elected at the last

@@ -5,12 +5,27 @@ pub(crate) const EVENTS: &str = r#"// ---- events: only this part runs anything 
 
 const isTyping = ({target}) => /^(INPUT|TEXTAREA|SELECT)$/.test(target.tagName) && target.type !== 'radio';
 
+// Moves the focus from a field to what the Tab key reaches next.
+const leaveField = (field) => {
+  const reached = [...document.querySelectorAll('button, input, select, summary')].filter((it) => !it.disabled && it.offsetParent);
+  (reached[reached.indexOf(field) + 1] ?? at('sign-out')).focus();
+};
+
+// Handles the keys of a field: Enter leaves it as Tab does, so that no form is sent from a field, and Escape leaves all fields.
+const onFieldKey = (event) => {
+  const {key, target} = event;
+  if (at('ask').contains(target) || event.isComposing) return;
+  if (key === 'Escape') target.blur();
+  if (key !== 'Enter' || !/^(text|search)$/.test(target.type)) return;
+  event.preventDefault();
+  leaveField(target);
+};
+
 const onKey = (event) => {
+  // While Enter is held down, it doesn't press the button that it has reached.
+  if (event.key === 'Enter' && event.repeat) event.preventDefault();
   if (event.ctrlKey || event.metaKey || event.altKey || event.repeat) return;
-  if (isTyping(event)) {
-    if (event.key === 'Escape' && !at('ask').open) event.target.blur();
-    return;
-  }
+  if (isTyping(event)) { onFieldKey(event); return; }
   if (at('ask').open) { onAskKey(event); return; }
   if (view === 'doubtful' && onDoubtfulKey(event)) return;
   const tab = TABS[Number(event.key) - 1];

@@ -87,26 +87,56 @@ const route = () => {
 
 const isOther = () => !at('other').hidden;
 
+const wardTexts = () => office.wards.map((it) => `${it.ward} ${it.seats} ${it.name}`);
+
+const OFFICE_TEXTS = {title: 'the election\u2019s title', copy: 'the time of the last copy', log: 'the list of orders sent from this browser'};
+
+// Returns how the officer knows what is stored under a name.
+const storedText = (name) => {
+  const [kind, ...more] = name.split(' ');
+  if (kind === 'expected') return `the papers expected in ward ${more[0]}`;
+  if (kind === 'draft') return `the preferences chosen for batch ${more[2]}, paper ${more[3]}`;
+  return OFFICE_TEXTS[name] ?? `an order that isn\u2019t confirmed: ${stored(name)?.title}`;
+};
+
+// Returns the names of what is stored for the previous office and doesn't fit this one. The papers expected in a ward fit if both have that
+// ward, and the title fits if they have any ward in common. What was typed into a form is always kept.
+const unfitting = (seen) => {
+  const shared = wardTexts().filter((it) => seen.wards.includes(it)).map((it) => `expected ${it.split(' ')[0]}`);
+  const names = [...storedNames(PENDING), ...storedNames('expected').filter((it) => !shared.includes(it)), ...storedNames('draft verdict'), 'copy', 'log'];
+  return [...names, ...(shared.length ? [] : ['title'])].filter((it) => stored(it));
+};
+
+const acceptOffice = (names, list) => {
+  names.forEach(unstore);
+  if (dropped === list) dropped = null;
+  judging.ward = 0;
+  details.clear();
+  store('seen', {receipts: office.receipts, wards: wardTexts()});
+  at('other').hidden = true;
+  giveUp();
+  drawPreview();
+  refresh(true);
+};
+
 // An office only grows: it loses no receipt, and no ward changes. If this browser saw more before, this is another file or an older copy.
 const compareOffice = () => {
   const seen = stored('seen', {receipts: 0, wards: []});
-  const wards = office.wards.map((it) => `${it.ward} ${it.seats} ${it.name}`);
+  const wards = wardTexts();
   const same = office.receipts >= seen.receipts && seen.wards.every((it) => wards.includes(it));
   if (same && !isOther()) return store('seen', {receipts: office.receipts, wards});
+  const [names, list] = [unfitting(seen), dropped];
+  const texts = [...names.map(storedText), ...(list ? [`the candidates of the file ${list.name}, which aren\u2019t added yet`] : [])];
   at('other').hidden = false;
   return at('other').replaceChildren(
     made('p', {className: 'said'}, 'This isn\u2019t the office that this browser used last.'),
     made('p', {}, `This office has ${many(office.receipts, 'accepted order')} and ${many(wards.length, 'ward')}. `,
       `The previous one had ${seen.receipts.toLocaleString('en')} and ${seen.wards.length}. `,
       'Another file may be served, or an older copy. Check that this is the right office before you continue.'),
-    made('p', {className: 'acts'}, button('This is the right office', () => {
-      for (const name of [...storedNames('expected'), ...storedNames('draft'), ...storedNames(PENDING), 'copy', 'log', 'title']) unstore(name);
-      details.clear();
-      store('seen', {receipts: office.receipts, wards: office.wards.map((it) => `${it.ward} ${it.seats} ${it.name}`)});
-      at('other').hidden = true;
-      giveUp();
-      refresh(true);
-    })));
+    made('p', {}, texts.length ? 'If you confirm, the following is discarded, because it belongs to the previous office. Everything else that you typed is kept.'
+      : 'If you confirm, everything that you typed is kept.'),
+    texts.length ? made('ul', {}, ...texts.map((it) => made('li', {}, it))) : '',
+    made('p', {className: 'acts'}, button('This is the right office', () => acceptOffice(names, list), {key: 'right-office'})));
 };
 
 let refreshing = null;

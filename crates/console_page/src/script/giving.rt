@@ -1,6 +1,6 @@
 //! Part of the script: how batches are given out.
 
-/// Declares how several batches at once are given out to pairs of tellers.
+/// Declares how several batches are given out at once to pairs of tellers.
 pub(crate) const GIVING: &str = r#"// ---- giving out batches
 
 const MOST_GIVEN = 400;

@@ -22,6 +22,12 @@ const roundOf = async (batch) => {
   return 0;
 };
 
+// Asks whether a file is of a later round than the first. No file says which round it is of, so one of an earlier round could be dropped again.
+const isOfRound = ({name}, {batch, clerk}, round) => askFirst(`Import teller ${clerk}\u2019s keying of batch ${batch} for round ${round}?`, 'Import',
+  made('p', {}, 'File: ', isolated(name)),
+  `The file doesn\u2019t say which round it is of. Import it only if teller ${clerk} keyed the batch from the papers in round ${round}.`,
+  warningText('If it is the file of an earlier round, cancel.'));
+
 const bringFile = async (file) => {
   const text = await textOf(file);
   const heading = text === null ? null : headingOf(text);
@@ -34,10 +40,11 @@ const bringFile = async (file) => {
     const why = `No ward that is being keyed has batch ${heading.batch}. Check the number in the file\u2019s first line.`;
     return {name: file.name, text: why, isWrong: true};
   }
+  const what = `Batch ${heading.batch}, teller ${heading.clerk}, round ${round}`;
+  if (round > 1 && !await isOfRound(file, heading, round)) return {name: file.name, text: `${what}: canceled`, isWrong: true};
   const name = `k${heading.clerk}-${heading.batch}.csv`;
   const printed = await order(`import the keying of batch ${heading.batch}, round ${round}, by teller ${heading.clerk}`,
     ['import-keying', heading.clerk, heading.batch, round, name, '--id', newId()], {[name]: text});
-  const what = `Batch ${heading.batch}, teller ${heading.clerk}, round ${round}`;
   if (isAccepted(printed)) return {name: file.name, text: `${what}: accepted`};
   return {name: file.name, text: `${what}: ${printed ? `${explainedError(printed.errors).line}. ${explainedError(printed.errors).todo}` : 'not sent'}`, isWrong: true};
 };

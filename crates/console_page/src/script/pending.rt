@@ -1,6 +1,6 @@
-//! Part of the script: orders that are sent again until the office has replied.
+//! Part of the script: orders that are resent until the office has replied.
 
-/// Declares how an order is sent. It is stored first, and sent again under its id until the office has replied.
+/// Declares how an order is sent. It is stored first, and resent under its id until the office has replied.
 pub(crate) const PENDING: &str = r#"// ---- sending orders
 
 const WAITS = [2, 5, 10, 20, 30];
@@ -74,7 +74,7 @@ const leaveOpen = (order) => {
 
 // Returns why an order isn't confirmed, and after how many seconds to send it again, or 0 to wait for the officer.
 const whyUnsent = (order, answer, turn) => {
-  if (isOther()) return ['This may not be the office that the order was meant for. Confirm above that it is the right one.', 0];
+  if (isOther()) return ['This may not be the office that the order was meant for. If you confirm above that it is the right one, this order is discarded.', 0];
   if (isDone(answer)) {
     leaveOpen(order);
     const {line, todo} = explainedError(answer.says.errors);

@@ -35,7 +35,7 @@ pub in-filter : (c : ℕ) (p : ℕ → Bool) (xs : List ℕ) → In c (filter p 
 in-filter c p [] h = cc
 in-filter c p (x ∷ xs) h = in_choice c x p xs (p x) (eqb c x) refl refl (in-filter c p xs) h
 
--- a drawn action is on a member of the group
+-- a drawn action acts on a member of the group
 pub record IsOn (contest : Contest) (stages : History) (kind : TiedFor) (group : List ℕ) (action : Action) : Type 0 where
   pub candidate : ℕ
   pub in_group : In candidate group
@@ -81,7 +81,7 @@ pub drawn-due : (contest : Contest) (s : Stage) (before : History) (lot : Option
     IsOn contest (s ∷ before) of_surplus (with_surplus contest (s ∷ before)) action ⊎ IsOn contest (s ∷ before) of_exclusion (continuing_after contest (s ∷ before)) action
 drawn-due contest s before lot action h = drawn_choice contest (s ∷ before) lot _ (with_surplus contest (s ∷ before)) action h
 
--- one more element passes a weaker test
+-- another element passes a weaker test
 count_choice : (p q : ℕ → Bool) (x : ℕ) (xs : List ℕ) (a b : Bool) → (a ≡ true → b ≡ true) →
     (n m : ℕ) → n ≤ m → length (cond a (x ∷ []) []) + n ≤ length (cond b (x ∷ []) []) + m
 count_choice p q x xs true true h n m le = omega (arith, le)
@@ -123,7 +123,7 @@ column-in c xs set h =
     let column = set.within at.0 at.1 in
     (omega (arith, column.0, same), omega (arith, column.1, same))
 
--- the element for a number in a list built over the numbers
+-- the element for a given number in a list built over all numbers
 pub at_number : (f : ℕ → ℕ) (c : ℕ) → IsColumn c → slice_index (map f numbers) (c - 1) ≡ f c
 at_number f c column = get_or-map-range_with_len f 1 30 (c - 1) c 0 (omega (arith, column.0, column.1)) (omega (arith, column.0))
 
@@ -185,7 +185,7 @@ length-acted contest handed (s ∷ []) fair right = omega arith
 length-acted contest handed (s ∷ s' ∷ before) fair right =
     omega (arith, length-acted contest handed (s' ∷ before) fair right.0, acted-more contest s s' before (handed (s' ∷ before) s) fair right.0.1.tells right.1)
 
--- a right history has at most two stages per candidate, plus one
+-- a correct history has at most two stages per candidate, plus one
 pub stages-bound : (contest : Contest) (handed : History → Stage → Option ℕ) (stages : History) → IsContest contest → IsRightBy contest handed stages →
     length stages ≤ 2 * length contest.candidates + 1
 unfolding acted
@@ -195,7 +195,7 @@ stages-bound contest handed stages fair right =
 pub length-right : (contest : Contest) (lots : List (ℕ × ℕ)) (stages : History) → IsContest contest → IsRight contest lots stages → length stages ≤ 2 * length contest.candidates + 1
 length-right contest lots stages fair right = stages-bound contest (λ before s. lot_for lots (length before + 1)) stages fair right
 
--- each added stage brings the count closer to its end, whatever the contest is called
+-- each added stage brings the count closer to its end, whatever name the contest is given
 pub steps-smaller : (contest contest' contest'' : Contest) (lots : List (ℕ × ℕ)) (old new : History) →
     contest' ≡ contest → contest'' ≡ contest → IsContest contest → IsRight contest lots old → AdvancesBy contest lots old new →
     2 * length contest''.candidates + 2 - length new < 2 * length contest'.candidates + 2 - length old

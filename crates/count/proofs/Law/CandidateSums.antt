@@ -75,7 +75,7 @@ filter_choice true x n l = omega (arith, mul_more (length l) n)
     mul_more k m = grind arith
 filter_choice false x n l = omega arith
 
--- a number, times the number of members that pass a test
+-- a number times the number of members that pass a test
 pub sum-filter : (p : ℕ → Bool) (n : ℕ) (xs : List ℕ) → length (filter p xs) * n ≡ sum_by (λ c. cond (p c) n 0) xs
 sum-filter p n [] = omega arith
 sum-filter p n (x ∷ xs) =

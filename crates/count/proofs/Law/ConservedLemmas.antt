@@ -134,7 +134,7 @@ figures-conserved contest handed s before fair right rankings =
     let above = sum-le (votes_after contest (s ∷ before)) (votes_at s) contest.candidates (λ c k. omega (arith, told c k)) in
     omega (arith, below, above, right.1.tells.non_transferable_told, right.1.tells.lost_told, votes-conserved contest handed s before fair right rankings)
 
--- The same for every stage.
+-- The same holds for every stage.
 pub all-conserved : (contest : Contest) (handed : History → Stage → Option ℕ) (stages : History) → IsContest contest → IsRightBy contest handed stages → AreRankings contest.papers →
     IsConserved contest stages
 all-conserved contest handed [] fair right rankings = tt

@@ -1,4 +1,4 @@
--- The computed stages are the right ones.
+-- The computed stages are the correct ones.
 use Rattle.std.proofs.Common.{◌≡◌, ℕ, zero, suc, ◌+◌, ◌≤◌, true, false, Bool, cond, nat_eq, List, [], ◌∷◌, ◌++◌, length, map, Option, Some, None, refl, sym, ap, ◌∙◌, arith}
 use Rattle.std.specs.Prelude.{IfSome, IfNone}
 use Rattle.std.specs.List.{list_any, range_with_len}
@@ -28,7 +28,7 @@ next_right : (contest : Contest) (lots : List (ℕ × ℕ)) (before : History) �
 next_right contest lots before right None is = right
 next_right contest lots before right (Some action) is = (right, record { was_due = is; tells = told_of contest before action })
 
--- the computed stages are right
+-- the computed stages are correct
 pub stages_right : (contest : Contest) (lots : List (ℕ × ℕ)) (k : ℕ) → IsRight contest lots (stages_to contest lots k)
 unfolding stages_to
 stages_right contest lots zero = tt
@@ -44,7 +44,7 @@ unfolding stages_to
 stages_few contest lots zero = omega arith
 stages_few contest lots (suc k) = omega (arith, next_few contest (stages_to contest lots k) (next_action contest lots (stages_to contest lots k)), stages_few contest lots k)
 
--- and they are the only right ones
+-- and they are the only correct ones
 pub stages_only : (contest : Contest) (lots : List (ℕ × ℕ)) (stages : History) → IsRight contest lots stages → stages ≡ stages_to contest lots (length stages)
 unfolding stages_to
 stages_only contest lots [] right = refl
@@ -76,7 +76,7 @@ stages_reordered contest lots papers (suc k) order =
 
 pub ruleset stages_counted = (stages_right, stages_few, stages_only, stages_reordered)
 
--- if a count ends there is no next action, otherwise there is one
+-- if a count ends, there is no next action; otherwise there is one
 ended_none : (contest : Contest) (stages : History) (lot : Option ℕ) (due : Due) (e : CountEnd) → end_of lot due ≡ Some e → drawn contest stages lot due ≡ None
 ended_none contest stages lot (Act action) e is = cc
 ended_none contest stages None Finished e is = refl
@@ -88,7 +88,7 @@ ended_none contest stages (Some c) (Lot stage kind tied) e is = by_tied (list_an
     by_tied true h = cc
     by_tied false h = refl
 
--- what is due with the lots when a lot is due: the action that is drawn, or still the lot if the recorded one is refused
+-- what is due, given the lots, when a lot is due: the action that is drawn, or still the lot if the recorded one is refused
 pub refused_none : (contest : Contest) (stages : History) (lot : Option ℕ) (due : Due) (e : AdvanceError) → refusal lot due ≡ Some e → drawn contest stages lot due ≡ None
 refused_none contest stages lot (Act action) e is = cc
 refused_none contest stages None Finished e is = refl
@@ -117,7 +117,7 @@ due_by-refused contest lots stages stage lot e here is refused =
 
 pub ruleset due_lots = (due_by-drawn, due_by-refused)
 
--- a book that advanced with the lots, or ended, has the next stages
+-- a book that has advanced with the lots, or has ended, has the next stages
 pub stages_next : (contest : Contest) (lots : List (ℕ × ℕ)) (old new : History) (end : Option CountEnd) → end ≡ end_after contest lots old → IfSome end (λ _. new ≡ old) →
     IfNone end (AdvancesBy contest lots old new)
     → new ≡ with_next contest lots old
@@ -125,7 +125,7 @@ stages_next contest lots old new None is same more =
     more.one_more ∙ ap (λ (t : Stage). t ∷ old) (is_told contest old more.stage more.next.tells) ∙ ap (with_stage contest old) (sym more.next.was_due)
 stages_next contest lots old new (Some e) is same more = same ∙ sym (ap (with_stage contest old) (ended_none contest old (lot_for lots (length old + 1)) (due_after contest old) e (sym is)))
 
--- a book with a number of stages and the next one with the lots has one more stage of the count
+-- a book with a given number of stages and the next one, given the lots, has another stage of the count
 pub counted_more : (contest now : Contest) (lots : List (ℕ × ℕ)) (k : ℕ) (old new : History) → now ≡ contest → old ≡ stages_to contest lots k → new ≡ with_next now lots old →
     new ≡ stages_to contest lots (k + 1)
 unfolding stages_to

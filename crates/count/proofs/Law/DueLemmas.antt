@@ -1,4 +1,4 @@
--- What is due, by cases.
+-- What is due, case by case.
 use Rattle.std.proofs.Common.{◌≡◌, ℕ, ◌+◌, ◌≢◌, Bool, true, false, cond, nat_lt, List, [], ◌∷◌, length, slice_index, refl, sym, ap, subst, arith, Option}
 use Rattle.std.specs.List.{filter}
 use Rattle.std.proofs.lemmas.Bool.{eq-eqb, ne_eqb}
@@ -28,7 +28,7 @@ stage-choice : (contest : Contest) (stages : History) (b : Bool) (group : List �
 stage-choice contest stages true group n k tied h = cc
 stage-choice contest stages false group n k tied h = stage-due_for contest stages group n k tied h
 
--- a lot is for the stage after those already done
+-- a lot is for the stage after the completed ones
 pub stage-due : (contest : Contest) (stages : History) (n : ℕ) (k : TiedFor) (tied : List ℕ) →
     due_after contest stages ≡ Lot n k tied → n ≡ length stages + 1
 stage-due contest [] n k tied h = cc
@@ -74,7 +74,7 @@ due-some contest stages (c ∷ rest) h = refl
 
 pub ruleset due_sizes = (due-none, due-some)
 
--- what is due after a newest stage, depending on whether a vacancy remains
+-- what is due after the newest stage, depending on whether a vacancy remains
 pub due-ended : (contest : Contest) (stages before : History) (s : Stage) → stages ≡ s ∷ before → vacancies_after contest stages ≡ 0 → Finished ≡ due_after contest stages
 due-ended contest stages before s is none =
     subst (λ x. vacancies_after contest x ≡ 0 → Finished ≡ due_after contest x) (sym is)

@@ -43,7 +43,7 @@ filter-same : (p q : ℕ → Bool) (xs : List ℕ) → ((c : ℕ) → p c ≡ q 
 filter-same p q [] h = refl
 filter-same p q (x ∷ xs) h = ap (λ b. cond b (x ∷ filter p xs) (filter p xs)) (h x) ∙ ap (λ l. cond (q x) (x ∷ l) l) (filter-same p q xs h)
 
--- the number elected, depending on whether the undecided fill the seats
+-- the number elected, depending on whether the undecided candidates fill the seats
 pub elected_filled : (contest : Contest) (stages : History) → undecided_fill contest stages ≡ true → length (elected_after contest stages) ≡ contest.seats
 elected_filled contest stages full =
     ap (λ f. length (filter (λ c. has_reached contest stages c || (f && not (is_excluded stages c))) contest.candidates)) full
@@ -69,11 +69,11 @@ unfilled_choice : (contest : Contest) (stages : History) (b : Bool) → undecide
 unfilled_choice contest stages true full left = absurd (eqb-false _ _ left (omega (arith, elected_filled contest stages full)))
 unfilled_choice contest stages false full left = refl
 
--- if a vacancy remains, the undecided don't fill the seats
+-- if a vacancy remains, the undecided candidates don't fill the seats
 pub vacant-unfilled : (contest : Contest) (stages : History) → (vacancies_after contest stages == 0) ≡ false → undecided_fill contest stages ≡ false
 vacant-unfilled contest stages left = unfilled_choice contest stages _ refl left
 
--- the candidates with the quota, and the undecided
+-- the candidates with the quota, and the undecided ones
 unfoldable pub in_race : Contest → History → List ℕ
 in_race contest stages = filter (λ c. has_reached contest stages c || not (is_excluded stages c)) contest.candidates
 
@@ -138,7 +138,7 @@ all_race : (contest : Contest) (cs : List ℕ) → length (filter (λ c. has_rea
 all_race contest [] = refl
 all_race contest (c ∷ cs) = omega (arith, all_race contest cs)
 
--- The candidates with the quota and the undecided are always enough for the seats.
+-- The candidates with the quota and the undecided ones are together always enough to fill the seats.
 pub race-enough : (contest : Contest) (handed : History → Stage → Option ℕ) (stages : History) → IsContest contest → IsRightBy contest handed stages → contest.seats ≤ length (in_race contest stages)
 unfolding in_race
 race-enough contest handed [] fair right = omega (arith, all_race contest contest.candidates, fair.contested)
@@ -208,7 +208,7 @@ end_finished (Some c) (Lot n kind tied) h = not_finished (list_any (nat_eq c) ti
     not_finished true n h = cc
     not_finished false n h = cc
 
--- the same for a count that ended because it was finished
+-- the same holds for a count that ended because it was finished
 pub finished-filled : (contest : Contest) (handed : History → Stage → Option ℕ) (lots : List (ℕ × ℕ)) (stages : History) → IsContest contest → IsRightBy contest handed stages →
     end_after contest lots stages ≡ Some has_finished → FillsSeats contest stages
 finished-filled contest handed lots stages fair right h = finished-elected contest handed stages fair right (end_finished (lot_for lots (length stages + 1)) (due_after contest stages) h)

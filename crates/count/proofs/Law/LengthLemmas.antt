@@ -1,4 +1,4 @@
--- A count has at most one more stage than candidates.
+-- A count has at most one stage per candidate, plus one.
 use Rattle.std.proofs.Common.{◌≡◌, ℕ, ◌+◌, ◌-◌, ◌≤◌, ◌==◌, ◌||◌, ◌⊎◌, inl, inr, Bool, true, false, not, cond, eqb, nat_eq, nat_le, List, [], ◌∷◌, length, Option, refl, sym, ap, ◌∙◌, arith}
 use Rattle.std.specs.List.{list_any, filter, sum_by}
 use Rattle.std.proofs.lemmas.Bool.{eqb-true, eqb-false, eq-eqb}
@@ -51,12 +51,12 @@ in_the_race : (r e : Bool) → e ≡ false → (r || not e) ≡ true
 in_the_race true e h = refl
 in_the_race false e h = ap not h
 
--- a candidate who isn't elected has not reached the quota
+-- a candidate who isn't elected hasn't reached the quota
 pub not_reached : (contest : Contest) (stages : History) (c : ℕ) (b : Bool) → has_reached contest stages c ≡ b → is_elected contest stages c ≡ false → b ≡ false
 not_reached contest stages c true e h = let k = reached-elected contest stages c e in cc
 not_reached contest stages c false e h = refl
 
--- it removes one candidate from the race
+-- an exclusion that moves nothing removes one candidate from the race
 last_race : (contest : Contest) (s s' : Stage) (before : History) (d : ℕ) → IsContest contest → In d contest.candidates → is_elected contest (s' ∷ before) d ≡ false →
     is_excluded (s' ∷ before) d ≡ false →
     Tells contest before s' → Tells contest (s' ∷ before) s → s.action ≡ ExcludeLast d → length (in_race contest (s ∷ s' ∷ before)) + 1 ≤ length (in_race contest (s' ∷ before))
@@ -97,7 +97,7 @@ last_after contest handed s s' before d fair right (inr on) is =
     let some = eqb-false _ _ left in
     eq-eqb _ _ (omega (arith, fewer, others, chosen, standing, enough, some, race-parts contest stages, race-parts contest (s ∷ stages), few-reach contest handed stages fair right.0))
 
--- after it no vacancy remains
+-- after the last exclusion no vacancy remains
 pub last-fills : (contest : Contest) (handed : History → Stage → Option ℕ) (s : Stage) (before : History) (d : ℕ) → IsContest contest → IsRightBy contest handed (s ∷ before) →
     s.action ≡ ExcludeLast d → vacancies_after contest (s ∷ before) ≡ 0
 last-fills contest handed s [] d fair right is = let e = sym (step-first contest (handed [] s) s.action right.1.was_due) ∙ is in cc
@@ -148,7 +148,7 @@ either_way : (a b : Bool) → (a || b) ≡ true → (a ≡ true) ⊎ (b ≡ true
 either_way true b h = inl refl
 either_way false b h = inr h
 
--- a surplus is that of a candidate who hasn't been excluded, and an exclusion is that of one whose surplus hasn't been transferred
+-- a surplus belongs to a candidate who hasn't been excluded, and an exclusion to one whose surplus hasn't been transferred
 apart_step : (contest : Contest) (handed : History → Stage → Option ℕ) (s s' : Stage) (before : History) (c : ℕ) → IsContest contest → AreRankings contest.papers →
     IsRightBy contest handed (s ∷ s' ∷ before) → In c contest.candidates →
     IsSurplus contest (s' ∷ before) s.action ⊎ IsExclusion contest (s' ∷ before) s.action → (is_transferred (s' ∷ before) c ≡ true → is_excluded (s' ∷ before) c ≡ true → ⊥) →
@@ -194,7 +194,7 @@ apart_choice true false x l k n apart h = omega (arith, h)
 apart_choice false true x l k n apart h = omega (arith, h)
 apart_choice false false x l k n apart h = omega (arith, h)
 
--- two tests of which no member passes both
+-- two tests such that no member passes both
 pub filter-apart : (p q : ℕ → Bool) (xs : List ℕ) → ((c : ℕ) → In c xs → p c ≡ true → q c ≡ true → ⊥) → length (filter p xs) + length (filter q xs) ≤ length xs
 filter-apart p q [] apart = omega arith
 filter-apart p q (x ∷ xs) apart =
@@ -202,7 +202,7 @@ filter-apart p q (x ∷ xs) apart =
     (filter-apart p q xs (λ c k. apart c (or_later (nat_eq c x) (list_any (nat_eq c) xs) k))) in
     omega (arith, one)
 
--- A count has at most as many stages as candidates, plus one.
+-- A count has at most one stage per candidate, plus one.
 pub stages-few : (contest : Contest) (handed : History → Stage → Option ℕ) (stages : History) → IsContest contest → AreRankings contest.papers → IsRightBy contest handed stages →
     length stages ≤ length contest.candidates + 1
 unfolding acted

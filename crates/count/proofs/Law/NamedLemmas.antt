@@ -20,7 +20,7 @@ use Rattle.count.proofs.Law.StepLemmas.{IsSurplus, IsExclusion, step-is, step-fi
 use Rattle.count.proofs.Law.ValueLemmas.{held}
 use Rattle.count.proofs.Law.LengthLemmas.{not_reached, transferred-reached}
 
--- ---- the elected stay elected
+-- ---- elected candidates stay elected
 
 all-pass : (xs : List ℕ) → length (filter (λ c. true && true) xs) ≡ length xs
 all-pass [] = refl
@@ -59,7 +59,7 @@ elected-stays contest handed s before c fair right h =
 
 -- ---- candidates named as elected
 
--- a member of a list is in the filter of a filter if and only if it passes both
+-- a member of a list is in the twice filtered list if and only if it passes both tests
 filtered_choice : (c : ℕ) (p q : ℕ → Bool) (xs : List ℕ) (b t : Bool) → q c ≡ b → list_any (nat_eq c) (filter p (filter q xs)) ≡ t → In c xs → t ≡ (b && p c)
 filtered_choice c p q xs true t e f h = sym f ∙ member-filter c p (filter q xs) (member-filter c q xs h ∙ e)
 filtered_choice c p q xs false true e f h = let k = (in-filter c q xs (in-filter c p (filter q xs) f).1).0 in cc

@@ -16,7 +16,7 @@ member_choice c p xs false false e f h = refl
 pub member-filter : (c : ℕ) (p : ℕ → Bool) (xs : List ℕ) → In c xs → list_any (nat_eq c) (filter p xs) ≡ p c
 member-filter c p xs h = member_choice c p xs _ _ refl refl h
 
--- the elected who weren't elected before are the newly elected
+-- the elected candidates who weren't elected before are the newly elected ones
 pub newly-elected : (contest : Contest) (before after : History) →
     filter (λ c. not (list_any (nat_eq c) (elected_after contest before))) (elected_after contest after) ≡ filter (λ c. not (is_elected contest before c)) (elected_after contest after)
 newly-elected contest before after =

@@ -1,4 +1,4 @@
--- Each action is drawn by the lot that it names itself.
+-- Each action is drawn by the lot that it itself names.
 use Rattle.std.proofs.Common.{◌≡◌, ℕ, Bool, true, false, cond, nat_eq, List, Option, Some, None, refl, sym, ap, ◌∙◌}
 use Rattle.std.specs.List.{list_any}
 use Rattle.count.specs.Law.Contest.{Contest, History}
@@ -29,7 +29,7 @@ own_lot contest stages n kind tied c true action e h =
     ∙ ap (λ b. cond b (Some (action_on contest stages kind c)) None) e ∙ h
 own_lot contest stages n kind tied c false action e h = cc
 
--- an action drawn by a lot is drawn by the lot that it names itself
+-- an action drawn by a lot is drawn by the lot that it itself names
 pub drawn-own : (contest : Contest) (stages : History) (lot : Option ℕ) (d : Due) (action : Action) → drawn contest stages lot d ≡ Some action →
     drawn contest stages (candidate_of action) d ≡ Some action
 drawn-own contest stages lot (Act a) action h = h

@@ -20,11 +20,11 @@ use Rattle.count.proofs.Law.ValueLemmas.{held}
 use Rattle.count.proofs.Law.StepLemmas.{IsSurplus, IsExclusion, step-is, step-first, reached-elected}
 use Rattle.count.proofs.ChoiceLemmas.{or_later}
 
--- whether some stage passed on the papers of a candidate
+-- whether some stage passed on the given candidate's papers
 abbrev pub has_passed : History → ℕ → Bool
 has_passed stages c = list_any (λ s. passes_on s.action c) stages
 
--- the first element that passes a test passes it, and is in the list
+-- if an element is the first to pass a test, it passes the test and is in the list
 first_choice : (test : ℕ → Bool) (x c : ℕ) (xs : List ℕ) (b : Bool) → test x ≡ b → first_of (cond b (x ∷ xs) (from_first test xs)) ≡ c →
     (first_of (from_first test xs) ≡ c → (test c ≡ true) × (list_any (λ d. d == c) xs ≡ true)) → (test c ≡ true) × ((eqb x c || list_any (λ d. d == c) xs) ≡ true)
 first_choice test x c xs true e same later = (ap test (sym same) ∙ e, ap (λ b. b || list_any (λ d. d == c) xs) (eq-eqb x c same))

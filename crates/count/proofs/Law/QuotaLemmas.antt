@@ -77,7 +77,7 @@ left_choice : (a t : Bool) (q : ℕ) → (a ≡ true → t ≡ false) → cond (
 left_choice true t q h = let e = ap (λ b. cond b q 0) (h refl) in omega (arith, e)
 left_choice false t q h = omega arith
 
--- a surplus leaves one more quota
+-- the transfer of a surplus leaves another quota
 pub quotas_more : (contest : Contest) (s : Stage) (before : History) (d : ℕ) → IsContest contest → s.action ≡ Surplus d → In d contest.candidates → is_transferred before d ≡ false →
     quotas_left contest (s ∷ before) ≡ contest.quota + quotas_left contest before
 quotas_more contest s before d fair is is_candidate fresh =
@@ -129,7 +129,7 @@ values-conserved contest handed s (s' ∷ before) fair right =
           (step-is contest s' before (handed (s' ∷ before) s) s.action right.1.was_due),
     )
 
--- the same if the newest stage has only its action
+-- the same holds if the newest stage has only its action
 pub values-conserved-next : (contest : Contest) (handed : History → Stage → Option ℕ) (s : Stage) (before : History) → IsContest contest → IsRightBy contest handed before →
     IsDue contest before s.action →
     all_values contest (s ∷ before) + quotas_left contest (s ∷ before) + lost_after contest (s ∷ before) ≡ one_vote * length contest.papers

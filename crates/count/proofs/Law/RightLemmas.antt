@@ -1,4 +1,4 @@
--- Of two right lists of stages, one is a prefix of the other, and there is only one count.
+-- Of two correct lists of stages, one is a prefix of the other, and there is only one count.
 use Rattle.std.proofs.Common.{◌≡◌, ℕ, ◌+◌, ◌-◌, Bool, true, false, not, cond, ◌≤◌, inl, inr, drop, eqb, nat_eq, List, [], ◌∷◌, length, map, Option, Some, None, refl, sym, ap, ◌∙◌, arith}
 use Rattle.std.proofs.Common.{subst, suc, zero, length-drop}
 use Rattle.std.specs.List.{sum_by, filter, list_any}
@@ -57,7 +57,7 @@ is_told contest before s tells =
 some_same : (a b : Action) (o : Option Action) → o ≡ Some a → o ≡ Some b → a ≡ b
 some_same a b o h k = cc
 
--- Two right histories of the same length are equal.
+-- Two correct histories of the same length are equal.
 pub right_same : (contest : Contest) (lots : List (ℕ × ℕ)) (xs ys : History) → IsRight contest lots xs → IsRight contest lots ys → length xs ≡ length ys → xs ≡ ys
 right_same contest lots [] [] h k e = refl
 right_same contest lots [] (y ∷ ys) h k e = absurd (omega (arith, e))
@@ -120,7 +120,7 @@ same_tells contest papers before s order tells = record {
   lost_told = tells.lost_told ∙ same_lost contest papers (s ∷ before) order;
 }
 
--- A history that is right for the papers in one order is right for them in any other.
+-- A history that is correct for the papers in one order is correct for them in any other.
 pub right_reordered : (contest : Contest) (lots : List (ℕ × ℕ)) (papers : List (List ℕ)) (stages : History) → IsPermutation contest.papers papers →
     IsRight (reordered contest papers) lots stages → IsRight contest lots stages
 right_reordered contest lots papers [] order right = tt
@@ -132,7 +132,7 @@ right_drop contest lots zero stages right = right
 right_drop contest lots (suc k) [] right = tt
 right_drop contest lots (suc k) (s ∷ before) right = right_drop contest lots k before right.0
 
--- if nothing comes next, no right history is longer
+-- if no action is next, no correct history is longer
 longest : (contest : Contest) (lots : List (ℕ × ℕ)) (whole stages : History) → IsRight contest lots whole → next_action contest lots whole ≡ None →
     IsRight contest lots stages → length stages ≤ length whole
 longest contest lots whole [] right_whole ended right = omega arith
@@ -155,7 +155,7 @@ ended-next contest stages lot Finished end h = refl
 ended-next contest stages None (Lot n k tied) end h = refl
 ended-next contest stages (Some c) (Lot n k tied) end h = ended_among (list_any (nat_eq c) tied) (LotNotAmong n) (action_on contest stages k c) end h
 
--- If a count has ended, each right history of its papers, in any order, is a prefix of it.
+-- If a count has ended, each correct history of its papers, in any order, is a prefix of it.
 begins_each_right : (contest : Contest) (lots : List (ℕ × ℕ)) (whole : History) (end : CountEnd) → IsRight contest lots whole → end_after contest lots whole ≡ Some end →
     BeginsEachRight contest lots whole
 begins_each_right contest lots whole end right ended papers stages order right_stages =
@@ -172,7 +172,7 @@ beginning contest lots stages whole right right_whole within = record {
   is = right_same contest lots _ stages (right_drop contest lots (length whole - length stages) whole right_whole) right (length-drop (length whole - length stages) whole ∙ omega (arith, within));
 }
 
--- Of two right histories, one is a prefix of the other.
+-- Of two correct histories, one is a prefix of the other.
 pub one_begins : (contest : Contest) (lots : List (ℕ × ℕ)) → OneBeginsOther contest lots
 one_begins contest lots papers one other order right_one right_other =
     let here = right_reordered contest lots papers other order right_other in
@@ -190,7 +190,7 @@ equals_each contest lots whole count papers stages order other =
     let above = longest contest lots stages whole here other.1 count.0 in
     right_same contest lots stages whole here count.0 (omega (arith, within, above))
 
--- If a count has ended, it is whole.
+-- If a count has ended, it is the whole count.
 pub whole_count : (contest : Contest) (lots : List (ℕ × ℕ)) (whole : History) (end : CountEnd) → IsRight contest lots whole → end_after contest lots whole ≡ Some end → IsWholeCount contest lots whole
 whole_count contest lots whole end right ended =
     let count : IsCount contest lots whole = (right, ended-next contest whole (lot_for lots (length whole + 1)) (due_after contest whole) end ended) in

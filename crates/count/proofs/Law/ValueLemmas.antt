@@ -63,7 +63,7 @@ taken-cuts contest s before c is = sum_by-same _ _ contest.papers (λ p. one p)
         let claim : Action → Type 0 = λ a. cond (eqb at.holder c) (moved contest before a p at).value 0 ≡ cut (surplus_of contest before c) (value_with c at) (newest_votes before c) in
         subst claim (sym is) (choice (eqb at.holder c) _ _ _ at)
 
--- A surplus conserves the total: the values of all papers, the quota that remains and the loss add up to what was there before.
+-- A surplus conserves the total: the values of all papers, the quota that remains and the loss add up to the total before it.
 pub surplus-conserves : (contest : Contest) (s : Stage) (before : History) (c : ℕ) → s.action ≡ Surplus c →
     0 < newest_votes before c → contest.quota ≤ newest_votes before c → held contest before c ≡ newest_votes before c →
     all_values contest (s ∷ before) + contest.quota + lost_after contest (s ∷ before) ≡ all_values contest before + lost_after contest before

@@ -9,11 +9,11 @@ use Rattle.count.specs.declared.stages.Stage.{Stage}
 use Rattle.count.specs.declared.stages.Action.{Action}
 use Rattle.count.specs.declared.stages.Action.TheVariants.{First, Surplus, Exclude, ExcludeLast}
 
--- a number of equal papers
+-- a given number of equal papers
 abbrev times : ℕ → List ℕ → List (List ℕ)
 times n paper = replicate n paper
 
--- a stage whose other numbers have no votes
+-- a stage at which all other numbers have no votes
 abbrev stage : Action → List ℕ → List ℕ → ℕ → ℕ → Stage
 stage action votes elected non_transferable lost =
     record { action = action; votes = votes ++ replicate (30 - length votes) 0; elected = elected; non_transferable = non_transferable; lost = lost }
@@ -273,7 +273,7 @@ passed_over_right_5 = (passed_over_right_4, record { was_due = refl; tells = rec
 passed_over_count : IsCount passed_over passed_over_lots passed_over_5
 passed_over_count = (passed_over_right_5, refl)
 
--- One seat: of three tied candidates, one is excluded because of the latest stage at which one had the fewest votes; then the next.
+-- One seat: among three tied candidates, the latest stage at which one of them had the fewest votes decides who is excluded; then the next one is excluded.
 abbrev three_tied : Contest
 three_tied = contest_for (1 ∷ 2 ∷ 3 ∷ 4 ∷ 5 ∷ 6 ∷ []) 1
     (times 9 (1 ∷ []) ++ times 2 (2 ∷ []) ++ times 3 (3 ∷ []) ++ times 4 (4 ∷ []) ++ times 1 (5 ∷ 2 ∷ []) ++ times 1 (6 ∷ 2 ∷ []) ++ times 1 (6 ∷ 3 ∷ []))

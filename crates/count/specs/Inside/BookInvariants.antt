@@ -36,13 +36,13 @@ IsMovedBy contest before action holdings moved =
 abbrev pub with_newly_elected : Stage → List ℕ → Stage
 with_newly_elected s newly = record { action = s.action; votes = s.votes; elected = newly; non_transferable = s.non_transferable; lost = s.lost }
 
--- a history with one more stage, whose newly elected candidates are filled in
+-- a history with another stage, whose newly elected candidates are filled in
 pub record IsAdded (terms : Terms) (old : History) (bare : Stage) (new : History) : Type 0 where
   pub newly : List ℕ
   pub one_more : new ≡ with_newly_elected bare newly ∷ old
   pub newly_is : newly ≡ filter (λ c. not (is_elected (contest_of terms []) old c)) (elected_after (contest_of terms []) (with_newly_elected bare newly ∷ old))
 
--- a history with one more stage, computed from the papers that an action moved
+-- a history with another stage, computed from the papers that an action moved
 pub record Records (terms : Terms) (old : History) (action : Action) (moved : List Holding) (new : History) : Type 0 where
   pub stage : Stage
   pub one_more : new ≡ stage ∷ old

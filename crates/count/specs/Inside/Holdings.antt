@@ -15,15 +15,15 @@ use Rattle.count.specs.declared.parcel.TransferRule.TheVariants.{AsReceived, Sha
 use Rattle.count.specs.declared.stages.Action.{Action}
 use Rattle.count.specs.declared.stages.Action.TheVariants.{First, Surplus, Exclude, ExcludeLast}
 
--- the sum of a function of preferences and value over some papers of one value
+-- the sum of a function of preferences and value over the given papers, all of one value
 abbrev pub total_at : (List ℕ → ℕ → ℕ) → ℕ → List (Bor (List ℕ)) → ℕ
 total_at f v papers = sum_by (λ rest. f rest.now v) papers
 
--- the sum of a function of preferences and value over the papers of some parcels
+-- the sum of a function of preferences and value over the papers of the given parcels
 abbrev pub total_of : (List ℕ → ℕ → ℕ) → List Parcel → ℕ
 total_of f parcels = sum_by (λ parcel. total_at f parcel.value parcel.papers.items) parcels
 
--- the sum of a function of holder, preferences and value over the papers of some holdings
+-- the sum of a function of holder, preferences and value over the papers of the given holdings
 abbrev pub total : (ℕ → List ℕ → ℕ → ℕ) → List Holding → ℕ
 total f holdings = sum_by (λ holding. total_of (f holding.holder) holding.parcels.items) holdings
 
@@ -36,7 +36,7 @@ abbrev pub AreNumbered : ℕ → List Holding → Type 0
 AreNumbered n [] = ⊤
 AreNumbered n (holding ∷ holdings) = (holding.holder ≡ n) × AreNumbered (n + 1) holdings
 
--- the preferences that remain when a paper with these is passed on: those starting with the next continuing candidate after the first
+-- the preferences that remain when a paper with the given preferences is passed on: those starting with the next continuing candidate after the first
 abbrev pub passed_to : (ℕ → Bool) → List ℕ → List ℕ
 passed_to continues rest = from_first continues (drop 1 rest)
 
@@ -73,15 +73,15 @@ passes_on (ExcludeLast d) c = false
 abbrev pub kept_by : (ℕ → List ℕ → ℕ → ℕ) → Action → ℕ → List ℕ → ℕ → ℕ
 kept_by f action h rest v = if passes_on action h then 0 else f h rest v
 
--- the worth of the papers that one holder has in some holdings
+-- the worth of the papers that one holder has in the given holdings
 abbrev pub worth_to : ℕ → List Holding → ℕ
 worth_to holder holdings = total (λ h rest v. if h == holder then v else 0) holdings
 
--- the total worth of the papers of some holdings
+-- the total worth of the papers of the given holdings
 abbrev pub worth : List Holding → ℕ
 worth holdings = total (λ h rest v. v) holdings
 
--- the votes of c after an action has moved some papers to new holders
+-- the votes of c after an action has moved the given papers to new holders
 abbrev pub votes_with : ℕ → History → Action → List Holding → ℕ → ℕ
 votes_with quota stages action moved c =
     if transfers action c || is_transferred stages c
@@ -98,14 +98,14 @@ abbrev pub newest_lost : History → ℕ
 newest_lost [] = 0
 newest_lost (s ∷ before) = s.lost
 
--- the loss by fractions after an action has moved some papers to new holders
+-- the loss by fractions after an action has moved the given papers to new holders
 abbrev pub lost_with : ℕ → History → Action → List Holding → ℕ
 lost_with quota stages First moved = newest_lost stages
 lost_with quota stages (Surplus c) moved = newest_lost stages + (newest_votes stages c - quota - worth moved)
 lost_with quota stages (Exclude c) moved = newest_lost stages
 lost_with quota stages (ExcludeLast c) moved = newest_lost stages
 
--- no figure is above one vote for each of the maximum number of papers
+-- no figure exceeds one vote for each of the maximum number of papers
 pub record AreSmall (stages : History) (moved : List Holding) : Type 0 where
   pub votes_small : (c : ℕ) → 1 ≤ c → c ≤ max_candidates → newest_votes stages c ≤ max_units
   pub non_transferable_small : newest_non_transferable stages ≤ max_units

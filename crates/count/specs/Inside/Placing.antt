@@ -21,11 +21,11 @@ use Rattle.count.specs.declared.stages.Action.TheVariants.{First, Surplus, Exclu
 use Rattle.count.specs.declared.stages.Stage.{Stage}
 use Rattle.count.specs.declared.terms.Terms.{Terms}
 
--- the contest with these terms and the papers that the bundles represent
+-- the contest with the given terms and the papers that the bundles represent
 abbrev pub contest_on : Terms → List Bundle → Contest
 contest_on terms bundles = contest_of terms (papers_of bundles)
 
--- the invariant of a book by bundles: each bundle is at the place that the law assigns to its papers
+-- the invariant of a bundle book: each bundle is at the place that the law assigns to its papers
 pub record IsBundled (contest : Contest) (history : History) (bundles : List Bundle) (places : List Placed) : Type 0 where
   pub fair : IsContest contest
   pub right : IsRightByItself contest history
@@ -33,7 +33,7 @@ pub record IsBundled (contest : Contest) (history : History) (bundles : List Bun
   pub papers_are : contest.papers ≡ papers_of bundles
   pub places_are : places ≡ places_after contest history bundles
 
--- an action that is due in a book by bundles
+-- an action that is due in a bundle book
 pub record IsDueInBook (contest : Contest) (history : History) (bundles : List Bundle) (places : List Placed) (action : Action) : Type 0 where
   pub book : IsBundled contest history bundles places
   pub due : IsDue contest history action
@@ -67,7 +67,8 @@ first_place paper = record { holder = first_of paper; value = one_vote }
 abbrev pub first_places : List Bundle → List Placed
 first_places bundles = map (λ (b : Bundle). first_place b.0) bundles
 
--- the place of a paper after c's papers are passed on: if c holds it, its next available preference, at the value that the rule computes from its own; otherwise unchanged
+-- the place of a paper after c's papers are passed on: if c holds it, its next available preference, at the value that the rule computes from its current value; otherwise
+-- unchanged
 abbrev pub passed_at : (ℕ → Bool) → TransferRule → ℕ → List ℕ → Placed → Placed
 passed_at continues rule c paper at =
     if at.holder == c then record { holder = first_of (passed_to continues (from_first (λ d. d == c) paper)); value = new_value rule at.value } else at
@@ -82,7 +83,7 @@ passed_places continues rule c (at ∷ places) (b ∷ bundles) = passed_at conti
 abbrev pub votes_from : ℕ → History → Action → List ℕ → ℕ → ℕ
 votes_from quota stages action sums c = if transfers action c || is_transferred stages c then quota else slice_index sums c
 
--- the loss by fractions: on a surplus, the earlier worth of all papers, less their present worth and the quota that stays
+-- the loss by fractions: on a surplus, the earlier worth of all papers, minus their present worth and the quota that stays
 abbrev pub lost_from : ℕ → History → Action → ℕ → ℕ → ℕ
 lost_from quota stages First old new = newest_lost stages
 lost_from quota stages (Surplus c) old new = newest_lost stages + (old - new - quota)

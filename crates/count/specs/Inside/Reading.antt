@@ -11,15 +11,15 @@ use Rattle.count.specs.declared.stages.Action.TheVariants.{First, Surplus, Exclu
 abbrev pub is_elected_mark : ℕ → Bool
 is_elected_mark mark = mark == elected || mark == surplus_now
 
--- the candidates that are marked as elected
+-- the candidates who are marked as elected
 abbrev pub elected_shown : (ℕ → Figure) → List ℕ → List ℕ
 elected_shown f candidates = filter (λ c. is_elected_mark (f c).mark) candidates
 
--- the votes of a number: those in a candidate's figure, or 0 if it isn't a candidate
+-- the votes for a number: those in the candidate's figure, or 0 if no candidate has the number
 abbrev pub units_shown : (ℕ → Figure) → List ℕ → ℕ → ℕ
 units_shown f candidates n = if list_any (nat_eq n) candidates then (f n).units else 0
 
--- the votes of all numbers
+-- the votes for all candidate numbers
 abbrev pub votes_shown : (ℕ → Figure) → List ℕ → List ℕ
 votes_shown f candidates = map (units_shown f candidates) numbers
 

@@ -10,7 +10,7 @@ use Rattle.count.specs.declared.placed.Placed.{Placed}
 use Rattle.count.specs.declared.stages.Stage.{Stage}
 use Rattle.count.specs.declared.terms.Terms.{Terms}
 
--- no number is out of range for every count, and the quota is that of the papers and seats if a count can be held on them
+-- every number is in range for some count, and the quota is that of the papers and seats if a count can be held on them
 pub record IsInRange (terms : Terms) (bundles : List Bundle) (places : List Placed) (stages : List Stage) : Type 0 where
   pub quota_is : IsContest (contest_for terms.candidates terms.seats (papers_of bundles)) → contest_on terms bundles ≡ contest_for terms.candidates terms.seats (papers_of bundles)
   pub bundles_are : AreBundles bundles

@@ -13,12 +13,12 @@ pub record Contest : Type 0 where
   pub quota : ℕ
   pub papers : List (List ℕ)
 
--- Quota: the contest of these candidates, seats and papers, with the quota that results from them.
+-- Quota: the contest for the given candidates, seats and papers, with the quota that results from them.
 abbrev pub contest_for : List ℕ → ℕ → List (List ℕ) → Contest
 contest_for candidates seats papers =
     record { candidates = candidates; seats = seats; quota = quota_of (length papers) seats; papers = papers }
 
--- c is in a list of candidates
+-- c is in the given list of candidates
 abbrev pub In : ℕ → List ℕ → Type 0
 In c candidates = list_any (nat_eq c) candidates ≡ true
 
@@ -27,7 +27,7 @@ abbrev pub AreForCandidates : List ℕ → List (List ℕ) → Type 0
 AreForCandidates candidates papers = AllByRecursion (λ paper. AllByRecursion (λ c. In c candidates) paper) papers
 
 -- A contest to which the rules apply: it has more candidates than seats, its seats and papers are within the limits, its preferences are only for
--- candidates, and its quota is that of these papers and seats.
+-- candidates, and its quota is the one for these papers and seats.
 pub record IsContest (contest : Contest) : Type 0 where
   pub candidate_set : IsCandidateSet contest.candidates
   pub some_seats : 1 ≤ contest.seats

@@ -10,16 +10,16 @@ use Rattle.count.specs.declared.stages.Action.{Action}
 use Rattle.count.specs.declared.stages.Due.{Due}
 use Rattle.count.specs.declared.stages.Due.TheVariants.{Act}
 
--- the stage of an action at which only these votes have been recorded so far
+-- the stage of the given action, with only the given votes recorded so far
 abbrev pub begun : Action → List ℕ → Stage
 begun action votes = record { action = action; votes = votes; elected = []; non_transferable = 0; lost = 0 }
 
--- the votes of each candidate after an action that follows some stages
+-- the votes of each candidate after the given action, which follows the given stages
 abbrev pub votes_by : Contest → History → Action → List ℕ
 votes_by contest before action = map (votes_after contest (begun action [] ∷ before)) numbers
 
--- The stage of an action that follows some stages, with everything it records; the action and those stages determine it. Its own votes may be empty
--- when other figures are computed, since `place` reads only the action and the votes of the earlier stages.
+-- The stage of the given action, which follows the given stages, with everything it records; the action and those stages determine it. Its own
+-- votes may be empty when other figures are computed, since `place` reads only the action and the votes of the earlier stages.
 abbrev pub stage_of : Contest → History → Action → Stage
 stage_of contest before action =
     record {
@@ -30,12 +30,12 @@ stage_of contest before action =
       lost = lost_after contest (begun action [] ∷ before);
     }
 
--- some stages, followed by the stage of an action if there is one
+-- the given stages, followed by the stage of the action if there is one
 abbrev pub with_stage : Contest → History → Option Action → History
 with_stage contest before None = before
 with_stage contest before (Some action) = stage_of contest before action ∷ before
 
--- some stages, followed by the next one with the recorded lots, if there is one
+-- the given stages, followed by the next one with the recorded lots, if there is one
 abbrev pub with_next : Contest → List (ℕ × ℕ) → History → History
 with_next contest lots before = with_stage contest before (next_action contest lots before)
 
@@ -49,6 +49,6 @@ abbrev pub due_or : Due → Option Action → Due
 due_or due (Some action) = Act action
 due_or due None = due
 
--- what is due with the recorded lots: the next action, or the lot that the count is waiting for, or nothing
+-- what is due, given the recorded lots: the next action, or the lot that the count is waiting for, or nothing
 abbrev pub due_by : Contest → List (ℕ × ℕ) → History → Due
 due_by contest lots stages = due_or (due_after contest stages) (next_action contest lots stages)

@@ -1,4 +1,4 @@
--- What is due after some stages: surpluses, exclusions, ties and lots.
+-- What is due after given stages: surpluses, exclusions, ties and lots.
 use Rattle.std.specs.Prelude.{ℕ, ◌+◌, ◌-◌, Bool, not, ◌==◌, nat_lt, if◌then◌else◌, List, [], ◌∷◌, map, length, Option, Some, None, nat_eq}
 use Rattle.std.specs.List.{filter, find, list_any}
 use Rattle.std.specs.Option.{option_map}
@@ -17,11 +17,12 @@ use Rattle.count.specs.declared.stages.Due.TheVariants.{Act, Lot, Finished}
 abbrev pub trace : History → ℕ → List ℕ
 trace stages c = map (λ s. votes_at s c) stages
 
--- Transfer of ballot papers; Exclusion of candidates: between equal votes, the most recent stage at which they differed decides; whether c had more votes than d at that stage
+-- Transfer of ballot papers; Exclusion of candidates: between candidates with equal votes, the most recent stage at which they differed decides; whether c had more votes than
+-- d at that stage
 abbrev pub is_above : History → ℕ → ℕ → Bool
 is_above stages c d = is_lt (slice_cmp nat_cmp (trace stages d) (trace stages c))
 
--- Transfer of ballot papers: the members of a group that have no other member above them
+-- Transfer of ballot papers: the members of a group with no other member above them
 abbrev pub highest : History → List ℕ → List ℕ
 highest stages group = filter (λ c. not (list_any (λ d. is_above stages d c) group)) group
 
@@ -38,7 +39,7 @@ abbrev pub exclusion : Contest → History → ℕ → Action
 exclusion contest stages c =
     if length (continuing_after contest stages) - 1 == vacancies_after contest stages then ExcludeLast c else Exclude c
 
--- the action on a candidate, transfer of the surplus or exclusion, depending on why the group was chosen
+-- the action on the given candidate, transfer of the surplus or exclusion, depending on why the group was chosen
 abbrev pub action_on : Contest → History → TiedFor → ℕ → Action
 action_on contest stages of_surplus c = Surplus c
 action_on contest stages of_exclusion c = exclusion contest stages c
@@ -54,7 +55,7 @@ abbrev pub due_for : Contest → History → List ℕ → Due
 due_for contest stages [] = among contest stages of_exclusion (lowest stages (continuing_after contest stages))
 due_for contest stages (c ∷ cs) = among contest stages of_surplus (highest stages (c ∷ cs))
 
--- what is due after some stages
+-- what is due after the given stages
 abbrev pub due_after : Contest → History → Due
 due_after contest [] = Act First
 due_after contest (s ∷ before) =
@@ -62,7 +63,7 @@ due_after contest (s ∷ before) =
     then Finished
     else due_for contest (s ∷ before) (with_surplus contest (s ∷ before))
 
--- the candidate that the lot for a stage names
+-- the candidate that the lot for the given stage names
 abbrev pub lot_for : List (ℕ × ℕ) → ℕ → Option ℕ
 lot_for lots stage = option_map (λ lot. lot.1) (find (λ lot. lot.0 == stage) lots)
 
@@ -73,6 +74,6 @@ drawn contest stages None (Lot stage kind tied) = None
 drawn contest stages (Some c) (Lot stage kind tied) = if list_any (nat_eq c) tied then Some (action_on contest stages kind c) else None
 drawn contest stages lot Finished = None
 
--- the next action after some stages, if there is one
+-- the next action after the given stages, if there is one
 abbrev pub next_action : Contest → List (ℕ × ℕ) → History → Option Action
 next_action contest lots stages = drawn contest stages (lot_for lots (length stages + 1)) (due_after contest stages)

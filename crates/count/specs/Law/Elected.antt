@@ -47,18 +47,18 @@ undecided_fill contest stages = length (with_quota contest stages) + length (und
 abbrev pub is_elected : Contest → History → ℕ → Bool
 is_elected contest stages c = has_reached contest stages c || (undecided_fill contest stages && not (is_excluded stages c))
 
--- the candidates elected after some stages
+-- the candidates elected after the given stages
 abbrev pub elected_after : Contest → History → List ℕ
 elected_after contest stages = filter (is_elected contest stages) contest.candidates
 
--- the candidates who continue after some stages: neither elected nor excluded
+-- the candidates who continue after the given stages: neither elected nor excluded
 abbrev pub continuing_after : Contest → History → List ℕ
 continuing_after contest stages = filter (λ c. not (is_elected contest stages c) && not (is_excluded stages c)) contest.candidates
 
--- whether c is one of the candidates who continue after some stages
+-- whether c is one of the candidates who continue after the given stages
 abbrev pub is_continuing : Contest → History → ℕ → Bool
 is_continuing contest stages c = list_any (nat_eq c) (continuing_after contest stages)
 
--- the number of seats that remain after some stages
+-- the number of seats that remain after the given stages
 abbrev pub vacancies_after : Contest → History → ℕ
 vacancies_after contest stages = contest.seats - length (elected_after contest stages)

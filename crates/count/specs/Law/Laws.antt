@@ -1,4 +1,4 @@
--- Laws of every right list of stages.
+-- Laws of every correct list of stages.
 use Rattle.std.specs.Prelude.{◌≡◌, ℕ, ◌+◌, ◌*◌, ◌≤◌, false, [], ◌∷◌, length, nat_eq, ⊤}
 use Rattle.std.specs.List.{list_any, sum_by}
 use Rattle.paper.specs.Columns.{IsColumn}

@@ -1,4 +1,4 @@
--- The place of each paper after some stages, and its value.
+-- The place of each paper after given stages, and its value.
 use Rattle.std.specs.Prelude.{ℕ, ◌-◌, ◌==◌, if◌then◌else◌, List, [], ◌∷◌, drop}
 use Rattle.votes.specs.Units.{one_vote, cut}
 use Rattle.paper.specs.Standing.{from_first}
@@ -34,11 +34,10 @@ abbrev pub passed_on : Contest → History → ℕ → List ℕ → Place → �
 passed_on contest before c paper at new_value =
     if at.holder == c then record { holder = next_available contest before c paper; value = new_value } else at
 
--- The place to which an action after some stages moves a paper.
--- At the first stage: to its first preference, as one vote.
--- Transfer of ballot papers, Transfer values: on a surplus, all papers of c are transferred, each at its value times the share of the surplus, rounded down.
--- Exclusion of candidates: on an exclusion, all papers of c are transferred, each at the value at which it was received.
--- Filling of last vacancies: an exclusion that fills the last vacancies moves nothing.
+-- The place to which an action after the given stages moves a paper. At the first stage: to its first preference, as one vote. Transfer of ballot papers,
+-- Transfer values: on a surplus, all papers of c are transferred, each at its value times the share of the surplus, rounded down. Exclusion of candidates:
+-- on an exclusion, all papers of c are transferred, each at the value at which it was received. Filling of last vacancies: an exclusion that fills the last
+-- vacancies moves nothing.
 abbrev pub moved : Contest → History → Action → List ℕ → Place → Place
 moved contest before First paper at = record { holder = first_of paper; value = one_vote }
 moved contest before (Surplus c) paper at =
@@ -46,7 +45,7 @@ moved contest before (Surplus c) paper at =
 moved contest before (Exclude c) paper at = passed_on contest before c paper at at.value
 moved contest before (ExcludeLast c) paper at = at
 
--- the place of a paper after some stages
+-- the place of a paper after the given stages
 abbrev pub place : Contest → History → List ℕ → Place
 place contest [] paper = record { holder = 0; value = 0 }
 place contest (s ∷ before) paper = moved contest before s.action paper (place contest before paper)

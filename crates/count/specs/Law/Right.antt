@@ -1,4 +1,4 @@
--- Right lists of stages, and the whole count.
+-- Correct lists of stages, and the whole count.
 use Rattle.std.specs.Prelude.{◌≡◌, ℕ, ◌+◌, ◌-◌, ◌≤◌, ◌⊎◌, not, List, [], ◌∷◌, map, drop, length, Option, Some, None, ⊤}
 use Rattle.std.specs.List.{filter}
 use Rattle.std.specs.List.Sorted.{IsPermutation}
@@ -17,21 +17,21 @@ pub record Tells (contest : Contest) (before : History) (s : Stage) : Type 0 whe
   pub non_transferable_told : s.non_transferable ≡ non_transferable_after contest (s ∷ before)
   pub lost_told : s.lost ≡ lost_after contest (s ∷ before)
 
--- a stage is next, for the lot passed, if its action was due and it records what it should
+-- a stage is next, for the given lot, if its action was due and it records what it should
 pub record IsNext (contest : Contest) (before : History) (lot : Option ℕ) (s : Stage) : Type 0 where
   pub was_due : drawn contest before lot (due_after contest before) ≡ Some s.action
   pub tells : Tells contest before s
 
--- a history is right if each stage was next after the earlier ones, for the lots passed
+-- a history is correct if each stage was next after the earlier ones, for the given lots
 abbrev pub IsRightBy : Contest → (History → Stage → Option ℕ) → History → Type 0
 IsRightBy contest handed [] = ⊤
 IsRightBy contest handed (s ∷ before) = IsRightBy contest handed before × IsNext contest before (handed before s) s
 
--- a history is right for recorded lots, pairs of a stage and a candidate
+-- a history is correct for the recorded lots, which are pairs of a stage and a candidate
 abbrev pub IsRight : Contest → List (ℕ × ℕ) → History → Type 0
 IsRight contest lots stages = IsRightBy contest (λ before s. lot_for lots (length before + 1)) stages
 
--- a history is right for some recorded lots
+-- a history is correct for some recorded lots
 pub record IsRightForSome (contest : Contest) (stages : History) : Type 0 where
   pub lots : List (ℕ × ℕ)
   pub right : IsRight contest lots stages
@@ -43,11 +43,11 @@ candidate_of (Surplus c) = Some c
 candidate_of (Exclude c) = Some c
 candidate_of (ExcludeLast c) = Some c
 
--- a history is right for the lots that its own actions name
+-- a history is correct for the lots that its own actions name
 abbrev pub IsRightByItself : Contest → History → Type 0
 IsRightByItself contest stages = IsRightBy contest (λ before s. candidate_of s.action) stages
 
--- a history is the count if it is right and no action is next: the count is finished or is waiting for a lot
+-- a history is the count if it is correct and no action is next: the count is finished or is waiting for a lot
 abbrev pub IsCount : Contest → List (ℕ × ℕ) → History → Type 0
 IsCount contest lots stages = IsRight contest lots stages × (next_action contest lots stages ≡ None)
 
@@ -60,23 +60,23 @@ pub record IsBeginning (stages whole : History) : Type 0 where
   pub within : length stages ≤ length whole
   pub is : drop (length whole - length stages) whole ≡ stages
 
--- each history that is right for these lots and the same papers, in any order, is a prefix of this one
+-- each history that is correct for the given lots and the same papers, in any order, is a prefix of this one
 abbrev pub BeginsEachRight : Contest → List (ℕ × ℕ) → History → Type 0
 BeginsEachRight contest lots whole =
     (papers : List (List ℕ)) (stages : History) → IsPermutation contest.papers papers → IsRight (reordered contest papers) lots stages → IsBeginning stages whole
 
--- each count for these lots and the same papers, in any order, equals this one
+-- each count for the given lots and the same papers, in any order, equals this one
 abbrev pub EqualsEachCount : Contest → List (ℕ × ℕ) → History → Type 0
 EqualsEachCount contest lots whole =
     (papers : List (List ℕ)) (stages : History) → IsPermutation contest.papers papers → IsCount (reordered contest papers) lots stages → stages ≡ whole
 
--- the whole count for recorded lots: it is complete, every right history is a prefix of it, and it is the only count
+-- the whole count for the recorded lots: it is complete, every correct history is a prefix of it, and it is the only count
 pub record IsWholeCount (contest : Contest) (lots : List (ℕ × ℕ)) (whole : History) : Type 0 where
   pub ended : IsCount contest lots whole
   pub begins_each : BeginsEachRight contest lots whole
   pub equals_each : EqualsEachCount contest lots whole
 
--- of two histories that are right for these lots and the same papers, in any order, one is a prefix of the other
+-- of two histories that are correct for the given lots and the same papers, in any order, one is a prefix of the other
 abbrev pub OneBeginsOther : Contest → List (ℕ × ℕ) → Type 0
 OneBeginsOther contest lots =
     (papers : List (List ℕ)) (one other : History) → IsPermutation contest.papers papers → IsRight contest lots one → IsRight (reordered contest papers) lots other →

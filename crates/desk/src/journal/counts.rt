@@ -39,7 +39,7 @@ fn put_lot(
     put_order(text, words.as_str(), kept.only(subject.as_str()))
 }
 
-/// Returns the lot for a stage from the lots of a ward.
+/// Returns the lot for a stage from a ward's lots.
 fn lot_at(lots: &[DrawnLot], stage: u32) -> Option<&DrawnLot> {
     lots.iter().find(|lot| lot.stage == stage)
 }
@@ -81,7 +81,7 @@ fn put_stages(
     Ok(())
 }
 
-/// Appends the seal, the count and the declaration of a ward, as far as they exist.
+/// Appends the seal, the count and the declaration of a ward, if they exist.
 pub(crate) fn put_count(
     alloc: Global,
     text: &mut String,

@@ -1,4 +1,4 @@
-//! The nominations of a ward in a journal.
+//! A ward's nominations in a journal.
 
 ghost use Rattle.register.specs.Offices.{MapsAreSorted};
 ghost use Rattle.rowcheck.specs.States.{state_of};
@@ -11,8 +11,8 @@ use register::ranges::LAST_CANDIDATE;
 use rowcheck::finding::candidates_of;
 use std::alloc::{AllocError, Global};
 
-/// Appends each addition of a candidate with this number, and the withdrawal that followed it, if any. No table contains the name
-/// of a withdrawn candidate, so a substitute is written.
+/// Appends each addition of a candidate with the given number, and the withdrawal that followed it, if any. No table contains the
+/// name of a withdrawn candidate, so a substitute is written.
 fn put_candidate(
     alloc: Global,
     text: &mut String,
@@ -38,7 +38,7 @@ fn put_candidate(
     Ok(())
 }
 
-/// Appends all candidates of a ward, in order of their numbers.
+/// Appends all of a ward's candidates, in numerical order.
 fn put_candidates(
     alloc: Global,
     text: &mut String,

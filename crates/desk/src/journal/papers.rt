@@ -1,4 +1,4 @@
-//! A batch, its keyings, and the verdicts on its papers in a journal.
+//! A batch in a journal: its keyings, and the verdicts on its papers.
 
 ghost use Rattle.register.specs.Offices.{MapsAreSorted};
 ghost use Rattle.rowcheck.specs.States.{state_of};

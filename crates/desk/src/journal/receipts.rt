@@ -24,7 +24,7 @@ pub(crate) fn places_of(
     Ok(places)
 }
 
-/// Appends a position to those of the receipts for a subject.
+/// Appends a position to the positions of a subject's receipts.
 fn put_place(
     alloc: Global,
     places: &mut HashMap<String, Vec<usize>>,
@@ -57,18 +57,18 @@ impl<'a> KeptReceipts<'a> {
         self.about(subject).len()
     }
 
-    /// Returns the receipt with this index among those for a subject, counting from 0.
+    /// Returns the receipt with the given index among those for a subject, counting from 0.
     pub(crate) fn numbered(&self, subject: &str, number: usize) -> Option<&'a Receipt> {
         let place = self.about(subject).get(number)?;
         self.receipt_at(*place)
     }
 
-    /// Returns the receipt for a subject that has at most one.
+    /// Returns a subject's receipt, if it has at most one.
     pub(crate) fn only(&self, subject: &str) -> Option<&'a Receipt> {
         self.numbered(subject, 0)
     }
 
-    /// Returns the receipt of an actor among those for a subject.
+    /// Returns an actor's receipt among those for a subject.
     pub(crate) fn of_actor(&self, subject: &str, actor: u32) -> Option<&'a Receipt> {
         for place in self.about(subject) {
             match self.receipt_at(*place) {
@@ -79,7 +79,7 @@ impl<'a> KeptReceipts<'a> {
         None
     }
 
-    /// Returns the first receipt for a subject whose reply has this prefix.
+    /// Returns the first receipt for a subject whose reply has the given prefix.
     pub(crate) fn replied(&self, subject: &str, front: &str) -> Option<&'a Receipt> {
         for place in self.about(subject) {
             match self.receipt_at(*place) {

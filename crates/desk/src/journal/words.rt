@@ -65,7 +65,7 @@ pub(crate) fn put_named(
     text.push_str("\n")
 }
 
-/// Appends a comment. The text must not contain a line end.
+/// Appends a comment. The text must not contain a newline.
 pub(crate) fn put_comment(text: &mut String, says: &str) -> Result<(), AllocError> {
     text.push_str("# ")?;
     text.push_str(says)?;

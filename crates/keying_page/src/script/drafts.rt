@@ -1,4 +1,4 @@
-//! Part of the script: the drafts that the browser stores. A draft is what a clerk has keyed so far of a batch in one round.
+//! Part of the script: the drafts that the browser stores. A draft is what a clerk has keyed so far for a batch in one round.
 
 /// Declares drafts, and how they are stored, checked and removed.
 pub(crate) const DRAFTS: &str = r#"'use strict';

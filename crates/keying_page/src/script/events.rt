@@ -1,4 +1,5 @@
-//! The last part of the script: the event listeners. Only this part runs code when it is loaded; the other parts only declare.
+//! The last part of the script: the event listeners. Only this part runs code when it is loaded; the other parts contain only
+//! declarations.
 
 /// Adds the event listeners, and shows the first view.
 pub(crate) const EVENTS: &str = r#"// ---- what leads where

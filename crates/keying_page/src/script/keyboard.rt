@@ -1,4 +1,4 @@
-//! Part of the script: the views of the page, and keyboard input to a paper.
+//! Part of the script: the views of the page, and keyboard input for a paper.
 
 /// Declares how the views change, and what keyboard input does in the view with papers.
 pub(crate) const VIEWS: &str = r#"// ---- what is shown

@@ -1,6 +1,6 @@
 //! Part of the script: the view of a finished batch, and how it is sent.
 
-/// Declares what is shown of a finished batch while it is being sent, repeated, refused or kept.
+/// Declares what is shown for a finished batch while it is being sent, repeated, refused or kept.
 pub(crate) const SENDING: &str = r#"// ---- the end of a batch
 
 const numbersOf = (isMeant) => draft.rows.flatMap((it, index) => (isMeant(it.text, it.was) ? [index + 1] : []));

@@ -1,6 +1,6 @@
 //! New books for worked elections.
 //!
-//! Tests are generic over the count, so their proofs don't depend on how a count stores its papers, and are short.
+//! Tests are generic over the count, so their proofs are short and don't depend on how a count stores its papers.
 
 ghost use Rattle.std.specs.Prelude.{◌≡◌, [], IfOk};
 ghost use Rattle.count.specs.Bundles.{papers_of};
@@ -20,7 +20,7 @@ pub trait Counting {
         requires { B.history book.old ≡ [] };
 }
 
-/// Runs the test with a book of these papers in parcels.
+/// Runs the test with a book that has the given papers in parcels.
 fn on_papers<C: Counting>(
     rt: &impl Abort,
     alloc: Global,
@@ -45,7 +45,7 @@ pub fn by_parcels<C: Counting>(
     on_papers(rt, alloc, worked, &papers, counting)
 }
 
-/// Returns a new book. If an allocation fails, creates the book once more.
+/// Returns a new book. If an allocation fails, creates the book again.
 fn begin_again(
     alloc: Global,
     candidates: Columns,
@@ -61,7 +61,7 @@ fn begin_again(
     BundleBook::new(alloc, candidates, seats, bundles)
 }
 
-/// Runs the test with a book of these papers in bundles.
+/// Runs the test with a book that has the given papers in bundles.
 pub fn on_bundles<C: Counting>(
     rt: &impl Abort,
     alloc: Global,

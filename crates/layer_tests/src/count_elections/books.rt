@@ -21,7 +21,7 @@ use std::alloc::{AllocError, Global};
 use std::process::Abort;
 use std::test::Fail;
 
-/// A count after this many stages: these candidates are elected, and this stage is next.
+/// The expected state of a count after a number of stages: the elected candidates, and the next stage.
 #[derive(Drop)]
 struct ComesTo<'a> {
     worked: &'a Worked,
@@ -59,7 +59,7 @@ fn goes_to_each(rt: &impl Abort, alloc: Global, worked: &Worked) -> Result<(), F
     Ok(())
 }
 
-/// Counts a worked election to its end, from its current stage.
+/// Counts a worked election to its end from its current stage.
 fn ends_as_worked<B: CountBook>(rt: &impl Abort, book: &mut B, worked: &Worked) -> Result<(), Fail>
     requires { IsRight (B.contest book.old) worked.now.lots.now (B.history book.old) }
 {
@@ -69,7 +69,7 @@ fn ends_as_worked<B: CountBook>(rt: &impl Abort, book: &mut B, worked: &Worked) 
     Ok(())
 }
 
-/// A count that has the stages of the worked election.
+/// A count with the stages of the worked election.
 #[derive(Drop)]
 struct ComesAsWorked<'a> {
     worked: &'a Worked,
@@ -81,7 +81,7 @@ impl<'a> Counting for ComesAsWorked<'a> {
     }
 }
 
-/// Returns a book of these bundles after this many stages.
+/// Returns a book of the given bundles after the given number of stages.
 fn counted<'a>(
     alloc: Global,
     candidates: Columns,
@@ -103,7 +103,7 @@ fn stands(alloc: Global, book: &BundleBook<'_>) -> Result<NextStage, AllocError>
     Ok(NextStage { places, stages })
 }
 
-/// Returns the places of a worked election's bundles, and its stages, after this many stages.
+/// Returns the places of a worked election's bundles, and its stages, after the given number of stages.
 pub fn standing(
     rt: &impl Abort,
     alloc: Global,
@@ -117,8 +117,8 @@ pub fn standing(
     Ok(stands(alloc, &book)?)
 }
 
-/// The bundles of the first worked election after its second stage: a list, the number of its papers, their holder, and the value
-/// of each in units.
+/// The bundles of the first worked election after its second stage: a list, the number of papers with it, their holder,
+/// and the value of each in units.
 const PLACES: [(&[u8], u32, u8, u64); 4] = [
     (&[1, 2], 4, 2, 33333),
     (&[1, 3], 2, 3, 33333),
@@ -126,18 +126,18 @@ const PLACES: [(&[u8], u32, u8, u64); 4] = [
     (&[3], 2, 3, 100000),
 ];
 
-/// Returns whether papers are in this place.
+/// Returns whether papers are in the place with the given holder and value.
 fn are_with(placed: &Placed, holder: u8, units: u64) -> bool {
     placed.holder == holder && placed.value.units() == units
 }
 
-/// Returns whether a bundle is in this place.
+/// Returns whether a bundle is in the expected place.
 fn lies_as(list: &Prefs, papers: u32, placed: &Placed, expected: &(&[u8], u32, u8, u64)) -> bool {
     let are_there = are_with(placed, expected.2, expected.3);
     list.as_slice() == expected.0 && papers == expected.1 && are_there
 }
 
-/// Asserts that each bundle is in its expected place.
+/// Checks that each bundle is in its expected place.
 fn lie_as(rt: &impl Abort, bundles: &Bundles, places: &[Placed]) {
     assert!(rt; places.len() == PLACES.len());
     for (((list, papers), placed), expected) in bundles.iter().zip(places).zip(&PLACES) {
@@ -154,7 +154,7 @@ fn bundles_lie_where_their_papers_do(rt: HostRuntime) -> Result<(), Fail> {
     Ok(())
 }
 
-/// Returns a resumed book. If an allocation fails, resumes it once more.
+/// Returns a resumed book. If an allocation fails, resumes it again.
 fn resume_again<'a>(
     alloc: Global,
     candidates: Columns,
@@ -174,7 +174,7 @@ fn resume_again<'a>(
     BundleBook::resume(alloc, candidates, seats, bundles, places, stages)
 }
 
-/// Resumes a worked election after this many stages, and counts it to its end.
+/// Resumes a worked election after the given number of stages, and counts it to its end.
 fn goes_on_from(
     rt: &impl Abort,
     alloc: Global,
@@ -193,7 +193,7 @@ fn goes_on_from(
     ends_as_worked(rt, &mut book, worked)
 }
 
-/// Does the same after each of its stages.
+/// Does the same as `goes_on_from` at each stage of a worked election.
 fn goes_on_from_each(rt: &impl Abort, alloc: Global, worked: &Worked) -> Result<(), Fail> {
     let bundles = bundles_of(alloc, worked.papers)?;
     for stages in 0..worked.stages.len() {

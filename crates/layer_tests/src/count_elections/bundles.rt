@@ -27,7 +27,7 @@ static SCATTERED: [&[u8]; 15] = [
     &[1, 2, 3],
 ];
 
-/// Their lists, in order, each with the number of its papers.
+/// The lists of those papers, in order, each with the number of its papers.
 static BUNDLES: [(&[u8], u32); 6] = [
     (&[1, 2, 3], 7),
     (&[1, 4], 1),
@@ -37,7 +37,7 @@ static BUNDLES: [(&[u8], u32); 6] = [
     (&[5], 1),
 ];
 
-/// Adds a paper with this list.
+/// Adds a paper with the given list.
 fn add_list(bundles: &mut Bundles, list: &[u8]) -> Result<(), Fail> {
     let list = prefs_of(list)?;
     Ok(add(bundles, list)?)
@@ -60,14 +60,14 @@ fn add_several(bundles: &mut Bundles, list: Prefs, papers: u32) -> Result<(), Al
     Err(AllocError)
 }
 
-/// Adds equal papers twice, all of them at once each time.
+/// Adds the given number of equal papers in one call, and then again in another.
 fn add_twice(bundles: &mut Bundles, list: &[u8], papers: u32) -> Result<(), Fail> {
     let list = prefs_of(list)?;
     add_several(bundles, list, papers)?;
     Ok(add_several(bundles, list, papers)?)
 }
 
-/// Returns bundles to which each of the expected ones was added twice.
+/// Returns bundles to which each of the expected ones has been added twice.
 fn doubled(alloc: Global) -> Result<Bundles, Fail> {
     let mut bundles = Bundles::new(alloc);
     for (list, papers) in &BUNDLES {
@@ -76,13 +76,13 @@ fn doubled(alloc: Global) -> Result<Bundles, Fail> {
     Ok(bundles)
 }
 
-/// Returns whether a bundle has the expected list, and this multiple of the expected number of papers.
+/// Returns whether a bundle has the expected list, and `times` times the expected number of papers.
 fn is_bundle(list: &Prefs, papers: u32, expected: &(&[u8], u32), times: u64) -> bool {
     let wanted = times.saturating_mul(u64::from(expected.1));
     list.as_slice() == expected.0 && u64::from(papers) == wanted
 }
 
-/// Asserts that these are the six bundles, with this multiple of their papers.
+/// Checks that the given bundles are the six expected ones, with `times` times their papers.
 fn are_bundles(rt: &impl Abort, bundles: &Bundles, times: u64) {
     let papers = u64::from(bundles.papers());
     let are_six = papers == times.saturating_mul(15) && bundles.len() == 6;
@@ -92,7 +92,7 @@ fn are_bundles(rt: &impl Abort, bundles: &Bundles, times: u64) {
     }
 }
 
-/// Asserts that each bundle is found by its index.
+/// Checks that each bundle is found by its index.
 fn is_found(rt: &impl Abort, bundles: &Bundles) {
     assert!(rt; bundles.len() > 4);
     let (list, papers) = bundles.get(4);

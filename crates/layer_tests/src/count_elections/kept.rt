@@ -1,4 +1,4 @@
-//! Counts that are resumed from their stored state.
+//! Counts resumed from their stored state.
 
 use super::worked::{Expected, Worked};
 use super::{bundles_of, first_columns, holds, record_one, with_all};
@@ -9,21 +9,21 @@ use std::process::Abort;
 use std::test::Fail;
 use votes::{ONE_VOTE, Votes};
 
-/// A stored count of a worked election. Tests are generic over it, so their proofs don't depend on what is stored, and are short.
+/// A stored count of a worked election. Tests are generic over it, so their proofs are short and don't depend on what is stored.
 pub trait KeptCase: Sized {
     /// Returns the count before its first stage.
     fn begun(alloc: Global, worked: &Worked) -> Result<Self, Fail>;
 
-    /// Returns the count after the next stage, resumed from what is stored; `None` if no stage is due.
+    /// Returns the count after the next stage, resumed from what is stored, or `None` if there is no next stage.
     fn following(&self, alloc: Global, worked: &Worked) -> Result<Option<Self>, Fail>;
 
-    /// Returns the newest stage.
+    /// Returns the most recent stage.
     fn newest(&self) -> Option<&Stage>;
 
     /// Returns the elected candidates.
     fn those_elected(&self) -> Columns;
 
-    /// Returns whether nothing is due.
+    /// Returns whether nothing remains to be done.
     fn is_finished(&self, worked: &Worked) -> bool;
 }
 
@@ -65,7 +65,7 @@ impl KeptCase for StoredCount {
     }
 }
 
-/// Asserts that the newest stage of a stored count is the expected one.
+/// Checks that the most recent stage of a stored count is the expected one.
 fn has_recorded<K: KeptCase>(rt: &impl Abort, worked: &Worked, kept: &K, expected: &Expected) {
     match kept.newest() {
         Some(stage) => record_one(rt, worked, stage, expected),
@@ -73,7 +73,7 @@ fn has_recorded<K: KeptCase>(rt: &impl Abort, worked: &Worked, kept: &K, expecte
     }
 }
 
-/// Counts the next stage, which must be the expected one, with these candidates elected after it.
+/// Counts the next stage, which must be the expected one, with the given candidates elected after it.
 fn gone_on<K: KeptCase + Drop>(
     rt: &impl Abort,
     alloc: Global,
@@ -87,7 +87,7 @@ fn gone_on<K: KeptCase + Drop>(
     Ok(next)
 }
 
-/// Asserts that nothing more is due.
+/// Checks that nothing remains to be done.
 fn is_at_its_end<K: KeptCase + Drop>(
     rt: &impl Abort,
     alloc: Global,
@@ -100,7 +100,7 @@ fn is_at_its_end<K: KeptCase + Drop>(
     Ok(())
 }
 
-/// Counts a worked election stage by stage, each resumed from what was stored after the stage before.
+/// Counts a worked election stage by stage, each resumed from what was stored after the preceding stage.
 pub fn goes_on_from_what_was_kept<K: KeptCase + Drop>(
     rt: &impl Abort,
     alloc: Global,
@@ -115,7 +115,7 @@ pub fn goes_on_from_what_was_kept<K: KeptCase + Drop>(
     is_at_its_end(rt, alloc, worked, &kept)
 }
 
-/// Returns whether a count with two papers in this place can be resumed.
+/// Returns whether a count with two papers in the given place can be resumed.
 fn are_taken_up(alloc: Global, holder: u8, units: u64) -> Result<bool, Fail> {
     let bundles = bundles_of(alloc, &[(2, &[1])])?;
     let mut places = Vec::new(alloc);
@@ -125,7 +125,7 @@ fn are_taken_up(alloc: Global, holder: u8, units: u64) -> Result<bool, Fail> {
     Ok(kept.is_some())
 }
 
-/// The holder of the papers, their value in units, and whether the count can be resumed.
+/// The papers' holder, their value in units, and whether the count can be resumed.
 const PLACES: [(u8, u64, bool); 3] = [
     (30, ONE_VOTE, true),
     (31, ONE_VOTE, false),

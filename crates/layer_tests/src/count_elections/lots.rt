@@ -18,7 +18,7 @@ fn tied() -> Result<&'static Worked, &'static str> {
     elections().get(4).ok_or("no such election")
 }
 
-/// Returns the lot that it needs.
+/// Returns the lot that the tied election needs.
 fn tied_lot() -> Due {
     Due::Lot {
         stage: 2,
@@ -37,7 +37,7 @@ const ADVANCES: [(Option<u8>, Result<(), AdvanceError>); 6] = [
     (None, Err(AdvanceError::Finished)),
 ];
 
-/// Asserts the result of `advance` with this lot.
+/// Checks the result of `advance` with the given lot.
 fn answers<B: CountBook>(
     rt: &impl Abort,
     book: &mut B,
@@ -47,7 +47,7 @@ fn answers<B: CountBook>(
     assert!(rt; book.advance(lot) == *answer, "lot {lot:?}");
 }
 
-/// Asserts the result of each `advance`, and that the count is then finished.
+/// Checks the result of each call to `advance`, and that the count is then finished.
 #[derive(Drop)]
 struct TakesLots;
 
@@ -66,10 +66,10 @@ fn lots_are_asked_for(rt: HostRuntime) -> Result<(), Fail> {
     by_parcels(&rt, rt.alloc(), tied()?, &TakesLots)
 }
 
-/// Recorded lots, how a count with them ends, and what is due after its second stage, if it has one.
+/// Recorded lots, how a count with them ends, and what comes next after its second stage, if it has one.
 type Recorded = (&'static [(u8, u8)], &'static str, Due);
 
-/// The cases.
+/// The cases that are tested.
 const LOTS: [Recorded; 4] = [
     (&[], "lot needed at 2", Due::Finished),
     (&[(3, 2)], "lot needed at 2", Due::Finished),
@@ -87,7 +87,7 @@ fn end_text(end: CountEnd) -> &'static str {
     }
 }
 
-/// Asserts how a count with recorded lots ends.
+/// Checks how a count with recorded lots ends.
 #[derive(Drop)]
 struct Ends<'a> {
     lots: &'a [(u8, u8)],
@@ -102,7 +102,7 @@ impl<'a> Counting for Ends<'a> {
     }
 }
 
-/// Asserts what is due after the first stage of a count with recorded lots.
+/// Checks what comes next after the first stage of a count with recorded lots.
 #[derive(Drop)]
 struct DueSecond<'a> {
     lots: &'a [(u8, u8)],
@@ -117,7 +117,8 @@ impl<'a> Counting for DueSecond<'a> {
     }
 }
 
-/// Asserts what is due before each of three stages and after them; `last` has the last two, if the count reaches them.
+/// Checks what comes next before each of three stages and after them; `last` has the last two values, if the count
+/// reaches them.
 #[derive(Drop)]
 struct DueAtEach<'a> {
     alloc: Global,
@@ -133,8 +134,8 @@ impl<'a> Counting for DueAtEach<'a> {
     }
 }
 
-/// Returns whether these are the four that are expected to be due: the first two in every case, and the last two if they are
-/// given.
+/// Returns whether the given values of `Due` are the four expected ones: the first two in every case, and the last two
+/// if they are given.
 fn are_due(told: &[Due], last: Option<[Due; 2]>) -> bool {
     let first = [Due::Act(Action::First), tied_lot()];
     let ends = match last {
@@ -144,7 +145,7 @@ fn are_due(told: &[Due], last: Option<[Due; 2]>) -> bool {
     ends && told.starts_with(&first) && told.len() == 4
 }
 
-/// Asserts how a count with recorded lots ends.
+/// Checks how a count with recorded lots ends.
 fn decide(
     rt: &impl Abort,
     alloc: Global,

@@ -1,4 +1,4 @@
-//! Allocations that fail, one at a time, under `rt try --test --fail-alloc N`: each failed call is repeated.
+//! Allocations that fail, one at a time, under `rt try --test --fail-alloc N`; each failed call is repeated.
 
 ghost use Rattle.std.specs.Prelude.{◌≡◌, []};
 
@@ -11,17 +11,17 @@ use std::alloc::Global;
 use std::process::Abort;
 use std::test::Fail;
 
-/// Counts the stage that is due.
+/// Counts the next stage.
 fn advance<B: CountBook>(book: &mut B) -> Result<(), AdvanceError> {
     book.advance(None)
 }
 
-/// Returns whether a book has this many stages, and this is due.
+/// Returns whether a book has the given number of stages, and `due` comes next.
 fn stands_at<B: CountBook>(book: &B, stages: usize, due: &Due) -> bool {
     book.stages().len() == stages && book.due() == *due
 }
 
-/// Counts a stage. If an allocation fails, the book must be unchanged, and the stage is counted once more.
+/// Counts a stage. If an allocation fails, the book must be unchanged, and the stage is counted again.
 fn advance_again<B: CountBook>(rt: &impl Abort, book: &mut B, stages: usize) {
     let due = book.due();
     if advance(book) == Err(AdvanceError::Memory) {
@@ -33,7 +33,7 @@ fn advance_again<B: CountBook>(rt: &impl Abort, book: &mut B, stages: usize) {
     );
 }
 
-/// Adds a paper. If an allocation fails, the bundles must be unchanged, and the paper is added once more.
+/// Adds a paper. If an allocation fails, the bundles must be unchanged, and the paper is added again.
 fn add_again(rt: &impl Abort, bundles: &mut Bundles, paper: Prefs) {
     let (papers, len) = (bundles.papers(), bundles.len());
     if add(bundles, paper).is_err() {
@@ -42,7 +42,7 @@ fn add_again(rt: &impl Abort, bundles: &mut Bundles, paper: Prefs) {
     }
 }
 
-/// Counts this many stages, which must be all of the count.
+/// Counts a number of stages, which must be all the stages of the count.
 #[derive(Drop)]
 struct AdvancesAgain {
     stages: usize,
@@ -58,7 +58,7 @@ impl Counting for AdvancesAgain {
     }
 }
 
-/// Returns the election in which a surplus contains papers at two values.
+/// Returns the election in which a surplus contains papers at two different values.
 fn with_surpluses() -> Result<&'static Worked, &'static str> {
     elections().get(1).ok_or("no such election")
 }
@@ -70,7 +70,7 @@ fn a_refused_growth_leaves_the_book(rt: HostRuntime) -> Result<(), Fail> {
     by_parcels(&rt, rt.alloc(), worked, &AdvancesAgain { stages })
 }
 
-/// Returns the election's papers as bundles. If an allocation fails, the paper is added once more.
+/// Returns the election's papers as bundles. If an allocation fails, the paper is added again.
 fn bundled_again(rt: &impl Abort, alloc: Global, worked: &Worked) -> Result<Bundles, Fail> {
     let papers = papers_of(alloc, worked.papers)?;
     let mut bundles = Bundles::new(alloc);

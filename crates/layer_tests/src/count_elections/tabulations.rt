@@ -1,4 +1,4 @@
-//! Counts that are read back from their tabulation alone.
+//! Counts read back from their tabulation alone.
 
 use super::books::standing;
 use super::worked::Worked;
@@ -11,7 +11,7 @@ use std::process::Abort;
 use std::test::Fail;
 use votes::ONE_VOTE;
 
-/// Returns the tabulation of a worked election with these places and stages.
+/// Returns the tabulation of a worked election with the given places and stages.
 fn tabulated(
     alloc: Global,
     worked: &Worked,
@@ -24,7 +24,7 @@ fn tabulated(
     Ok(rows)
 }
 
-/// Returns the count that is read back from a tabulation.
+/// Returns the count read back from a tabulation.
 fn read_back(alloc: Global, worked: &Worked, rows: &Tabulation) -> Result<StoredCount, Fail> {
     let (candidates, seats) = (first_columns(worked.candidates), u32::from(worked.seats));
     match count_of(alloc, candidates, seats, &rows.bundles, &rows.figures)? {
@@ -33,7 +33,7 @@ fn read_back(alloc: Global, worked: &Worked, rows: &Tabulation) -> Result<Stored
     }
 }
 
-/// Asserts that the count that was read back equals the original after this many stages.
+/// Checks that the count that was read back equals the original after the given number of stages.
 fn is_as_it_stood(
     rt: &impl Abort,
     worked: &Worked,
@@ -47,7 +47,7 @@ fn is_as_it_stood(
     assert!(rt; is_so, "{}: {stages}", worked.name);
 }
 
-/// Tabulates a worked election after this many stages, and reads it back.
+/// Tabulates a worked election after the given number of stages, and reads it back.
 fn is_read_back(
     rt: &impl Abort,
     alloc: Global,
@@ -62,7 +62,7 @@ fn is_read_back(
     Ok(())
 }
 
-/// Does the same after each of its stages.
+/// Does the same as `is_read_back` after each stage of a worked election.
 pub fn is_read_back_at_each(rt: &impl Abort, alloc: Global, worked: &Worked) -> Result<(), Fail> {
     let bundles = bundles_of(alloc, worked.papers)?;
     for stages in 1..=worked.stages.len() {
@@ -71,7 +71,7 @@ pub fn is_read_back_at_each(rt: &impl Abort, alloc: Global, worked: &Worked) -> 
     Ok(())
 }
 
-/// A bundle's list, the number of its papers, and its holder; and whether a count can have such a bundle.
+/// A bundle's list, its number of papers, and its holder; and whether a count can have such a bundle.
 const BUNDLES: [(&[u8], u32, u32, bool); 6] = [
     (&[1, 2], 1, 1, true),
     (&[1, 1], 1, 1, false),
@@ -81,7 +81,7 @@ const BUNDLES: [(&[u8], u32, u32, bool); 6] = [
     (&[1, 2], 1, 257, false),
 ];
 
-/// Returns a bundle of these papers.
+/// Returns a bundle of the given papers.
 fn placed(
     alloc: Global,
     list: &[u8],
@@ -97,13 +97,13 @@ fn placed(
     })
 }
 
-/// Returns whether a count with this one bundle can be read back.
+/// Returns whether a count with the given bundle alone can be read back.
 fn has_count(alloc: Global, bundle: PlacedBundle) -> Result<bool, AllocError> {
     let found = count_of(alloc, first_columns(3), 1, &[bundle], &[])?;
     Ok(found.is_some())
 }
 
-/// Asserts that a count with this one bundle is read back if and only if a count can have it.
+/// Checks that a count with the given bundle alone is read back if and only if a count can have that bundle.
 fn may_have(
     rt: &impl Abort,
     alloc: Global,

@@ -1,9 +1,9 @@
-//! Small elections counted by hand, stage by stage.
+//! Small elections, counted by hand stage by stage.
 
 use count::Action;
 
 /// An expected stage: its action, the figures of candidates 1, 2 and so on, the newly elected candidates, and the
-/// non-transferable votes and the votes lost by fractions, in units.
+/// non-transferable votes and the votes lost to fractions, in units.
 pub struct Expected {
     pub action: Action,
     pub votes: &'static [u64],
@@ -21,7 +21,7 @@ pub struct Worked {
     pub stages: &'static [Expected],
 }
 
-/// Returns all of them. (A proof that uses this call sees none of their contents, and is short.)
+/// Returns all worked elections. (A proof that uses this function sees none of their contents, so it is short.)
 pub fn elections() -> &'static [Worked] {
     &WORKED
 }

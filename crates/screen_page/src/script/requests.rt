@@ -1,6 +1,6 @@
-//! Part of the script: the requests to the office, and what is known about it.
+//! Part of the script: the requests to the office, and what is known about the office.
 
-/// Declares the requests. While the office doesn't respond, the data read last remains shown.
+/// Declares the requests. While the office doesn't respond, the data read last stays on the screen.
 pub(crate) const REQUESTS: &str = r#"// ---- requests to the office
 
 // How many seconds pass between two looks at the office, and how long it may take to respond.

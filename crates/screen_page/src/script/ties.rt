@@ -1,6 +1,6 @@
 //! Part of the script: ties, as a stage sheet shows them.
 
-/// Declares which candidates were tied for the action of a stage, and what settled the tie.
+/// Declares how to tell which candidates were tied for the action of a stage, and what settled the tie.
 pub(crate) const TIES: &str = r#"// ---- ties
 
 const votesAt = (stage, candidate) => stage.rows.find((it) => it.candidate === candidate).units;

@@ -1,6 +1,6 @@
-//! Reads through a store with a cache, which return the same as reads through the store alone. If there is a cache, it
-//! is refreshed first, and the status of a ward, its next step, and the overviews of wards and of batches are taken
-//! from it.
+//! Reads through a store with a cache, which return the same results as reads through the store alone. If there is a
+//! cache, it is refreshed first, and the status of a ward, its next step, and the overviews of wards and of batches are
+//! taken from it.
 
 ghost use Rattle.std.specs.Prelude.{◌≡◌, map, option_map, IfOk, IfErr, OnOk, IsTrue};
 ghost use Rattle.sqlite.specs.State.{HasCleanDisk};
@@ -30,28 +30,28 @@ use sqlite::Alter;
 use tables::Fault;
 
 impl<S: Alter> CachedStore<S> {
-    /// Returns the same as `Store::load_columns`.
+    /// Returns the same result as `Store::load_columns`.
     pub fn load_columns(&mut self, batch: u32) -> Result<Option<Columns>, Fault>
         ensures { Loads S.Store self.old self.new result (λ s found. found ≡ columns_at s batch) }
     {
         self.store.load_columns(batch)
     }
 
-    /// Returns the same as `Store::load_work`.
+    /// Returns the same result as `Store::load_work`.
     pub fn load_work(&mut self, clerk: u32) -> Result<Vec<Work>, Fault>
         ensures { Loads S.Store self.old self.new result (λ s found. map work_entry found.items ≡ work_of s clerk) }
     {
         self.store.load_work(clerk)
     }
 
-    /// Returns the same as `Store::load_paper`.
+    /// Returns the same result as `Store::load_paper`.
     pub fn load_paper(&mut self, clerk: u32, batch: u32) -> Result<Option<BallotPaper>, Fault>
         ensures { Loads S.Store self.old self.new result (λ s found. option_map paper_entry found ≡ paper_at s clerk batch) }
     {
         self.store.load_paper(clerk, batch)
     }
 
-    /// Returns the same as `Store::load_earlier_keying`.
+    /// Returns the same result as `Store::load_earlier_keying`.
     pub fn load_earlier_keying(
         &mut self,
         clerk: u32,
@@ -62,49 +62,49 @@ impl<S: Alter> CachedStore<S> {
         self.store.load_earlier_keying(clerk, batch)
     }
 
-    /// Returns the same as `Store::load_sheet`.
+    /// Returns the same result as `Store::load_sheet`.
     pub fn load_sheet(&mut self, ward: u32) -> Result<Option<WardSheet>, Fault>
         ensures { Loads S.Store self.old self.new result (λ s found. IsSheetFor (option_map (election_of s) (ward_at s ward)) found) }
     {
         self.store.load_sheet(ward)
     }
 
-    /// Returns the same as `Store::load_counted`.
+    /// Returns the same result as `Store::load_counted`.
     pub fn load_counted(&mut self, ward: u32) -> Result<Option<CountedWard>, Fault>
         ensures { Loads S.Store self.old self.new result (λ s found. IsCountedInFor (option_map (election_of s) (ward_at s ward)) found) }
     {
         self.store.load_counted(ward)
     }
 
-    /// Returns the same as `Store::load_doubtful`.
+    /// Returns the same result as `Store::load_doubtful`.
     pub fn load_doubtful(&mut self, ward: u32) -> Result<Option<DoubtfulPapers>, Fault>
         ensures { Loads S.Store self.old self.new result (λ s found. option_map doubtful_papers_view found ≡ doubtful_at s ward) }
     {
         self.store.load_doubtful(ward)
     }
 
-    /// Returns the same as `Store::load_differences`.
+    /// Returns the same result as `Store::load_differences`.
     pub fn load_differences(&mut self, batch: u32) -> Result<Option<Differences>, Fault>
         ensures { Loads S.Store self.old self.new result (λ s found. option_map differences_view found ≡ differences_at s batch) }
     {
         self.store.load_differences(batch)
     }
 
-    /// Returns the same as `Store::load_batch_papers`.
+    /// Returns the same result as `Store::load_batch_papers`.
     pub fn load_batch_papers(&mut self, batch: u32) -> Result<Option<CountedPapers>, Fault>
         ensures { Loads S.Store self.old self.new result (λ s found. option_map papers_view found ≡ papers_at s batch) }
     {
         self.store.load_batch_papers(batch)
     }
 
-    /// Returns the same as `Store::load_receipts`.
+    /// Returns the same result as `Store::load_receipts`.
     pub fn load_receipts(&mut self, actor: Option<u32>) -> Result<Vec<Receipt>, Fault>
         ensures { Loads S.Store self.old self.new result (λ s found. map receipt_entry found.items ≡ receipts_of s actor) }
     {
         self.store.load_receipts(actor)
     }
 
-    /// Returns the same as `Store::load_differs_from_stored`.
+    /// Returns the same result as `Store::load_differs_from_stored`.
     pub fn load_differs_from_stored(&mut self, request: &Request) -> Result<bool, Fault>
         ensures shows { HasCleanDisk (state S.Store self.new) → (s : OfficeState) → IsAt s (state S.Store self.old) → IfOk result (λ found. found ≡ is_kept_otherwise s request.now) }
         ensures cause { HasCleanDisk (state S.Store self.new) → (s : OfficeState) → IsAt s (state S.Store self.old) → IfErr result (FailsBy (state S.Store self.old) (state S.Store self.new)) }
@@ -114,7 +114,7 @@ impl<S: Alter> CachedStore<S> {
         self.store.load_differs_from_stored(request)
     }
 
-    /// Returns the same as `Store::load_wards`.
+    /// Returns the same result as `Store::load_wards`.
     pub fn load_wards(&mut self) -> Result<Vec<WardOverview>, Fault>
         ensures { Loads S.Store self.old self.new result (λ s found. map ward_view found.items ≡ ward_views s) }
     {
@@ -124,7 +124,7 @@ impl<S: Alter> CachedStore<S> {
         }
     }
 
-    /// Returns the same as `Store::load_batches`.
+    /// Returns the same result as `Store::load_batches`.
     pub fn load_batches(&mut self, ward: u32) -> Result<Option<Vec<BatchOverview>>, Fault>
         ensures { Loads S.Store self.old self.new result (λ s found. option_map (λ batches. map batch_view batches.items) found ≡ batch_views_at s ward) }
     {
@@ -134,7 +134,7 @@ impl<S: Alter> CachedStore<S> {
         }
     }
 
-    /// Returns the same as `Store::load_status`.
+    /// Returns the same result as `Store::load_status`.
     pub fn load_status(&mut self, ward: u32) -> Result<Option<Status>, Fault>
         ensures { Loads S.Store self.old self.new result (λ s found. option_map status_entry found ≡ status_at s ward) }
     {
@@ -144,7 +144,7 @@ impl<S: Alter> CachedStore<S> {
         }
     }
 
-    /// Returns the same as `Store::load_next`.
+    /// Returns the same result as `Store::load_next`.
     pub fn load_next(&mut self, ward: u32) -> Result<Option<NextStep>, Fault>
         ensures { Loads S.Store self.old self.new result (λ s found. option_map step_entry found ≡ next_at s ward) }
     {

@@ -1,4 +1,4 @@
-//! Bundles of equal ballot papers and their places, as the rows of their table.
+//! Bundles of identical ballot papers and their places, as the rows of their table.
 
 ghost use Rattle.std.specs.Prelude.{refl};
 ghost use Rattle.register.specs.Tabulated.{placed_entry};

@@ -1,4 +1,4 @@
-//! The figures of counts' stages, as the rows of their table.
+//! The figures for the stages of counts, as the rows of their table.
 
 ghost use Rattle.std.specs.Prelude.{refl};
 ghost use Rattle.register.specs.Tabulated.{figure_entry};

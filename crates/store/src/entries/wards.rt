@@ -15,7 +15,7 @@ use std::alloc::Global;
 use tables::value_conversion::{number_at, row_values, text, text_at};
 use tables::{Entries, Fault, Table};
 
-/// Reads the phase in a column; `Damaged` if the value isn't one.
+/// Reads the phase in a column; returns `Damaged` if the value isn't a phase.
 fn phase_at(row: &Row, place: usize) -> Result<Phase, Fault>
     ensures phase { IfOk result (λ phase. column row.now place ≡ Int (pos (phase_number phase))) }
     ensures cause { IfErr result (λ f. (f ≡ Fault.Memory) ⊎ ((f ≡ Fault.Damaged) × ¬ IsPhase (column row.now place))) }

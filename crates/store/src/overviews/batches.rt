@@ -19,18 +19,18 @@ use sqlite::Alter;
 use std::alloc::Global;
 use tables::Fault;
 
-/// The standing of a batch, by the keyings of its current round.
+/// The standing of a batch, based on the keyings of its current round.
 #[derive(Clone, Copy, PartialEq, Eq)]
 pub enum BatchStanding {
     /// Two of the keyings are equal.
     Taken,
-    /// There are at least two keyings, and no two are equal.
+    /// There are at least two keyings, no two of which are equal.
     Differing,
     /// There are fewer than two keyings.
     Waiting,
 }
 
-/// A batch, and its two or three clerks ordered by number; its standing; and, once it is taken, how many of its
+/// A batch, with its two or three clerks ordered by number; its standing; and, once it is taken, how many of its
 /// doubtful papers have no verdict. `twin` is the number of the first other batch that is taken with exactly the same
 /// papers and whose ward has the same candidate numbers.
 #[derive(Drop)]
@@ -42,7 +42,7 @@ pub struct BatchOverview {
     pub twin: Option<u32>,
 }
 
-/// Returns the standing of a batch with these keyings of its current round.
+/// Returns the standing of a batch with the given keyings of its current round.
 fn standing_by(keyings: &Keyings) -> BatchStanding
     ensures { result ≡ standing_by (keyings_by keyings.now) }
 {
@@ -73,7 +73,7 @@ fn overview_by(
     }
 }
 
-/// Returns the overviews of a ward's batches, from the data that was read for all batches. The only error is `Memory`.
+/// Returns the overviews of a ward's batches, from the data read for all batches. The only error is `Memory`.
 fn overviews_among(alloc: Global, read: Vec<ReadBatch>) -> Result<Vec<BatchOverview>, Fault>
     ensures is { IfOk result (λ found. (s : OfficeState) (ward : ℕ) → map read_view read.items ≡ map (read_view_of s ward) s.batches → map batch_view found.items ≡ batch_views s ward) }
     ensures cause { IfErr result (λ f. f ≡ Fault.Memory) }
@@ -88,7 +88,7 @@ fn overviews_among(alloc: Global, read: Vec<ReadBatch>) -> Result<Vec<BatchOverv
 }
 
 impl<S: Alter> Store<S> {
-    /// Returns the overview of a batch with these keyings, without its twin.
+    /// Returns the overview of a batch with the given keyings, without its twin.
     pub(crate) fn batch_overview(
         &mut self,
         batch: Batch,
@@ -106,7 +106,7 @@ impl<S: Alter> Store<S> {
         Ok(overview_by(batch, clerks, keyings, &verdicts))
     }
 
-    /// Returns the overview of a batch of this ward; `None` for a batch of another ward.
+    /// Returns the overview of a batch in the given ward; `None` for a batch in any other ward.
     fn overview_in(
         &mut self,
         batch: Batch,
@@ -123,7 +123,7 @@ impl<S: Alter> Store<S> {
         Ok(Some(overview))
     }
 
-    /// Returns the agreed papers of a batch with these keyings, as one text; `None` if the batch isn't taken.
+    /// Returns the agreed papers of a batch with the given keyings, as one text; `None` if the batch isn't taken.
     pub(crate) fn pile_in(
         &mut self,
         batch: &Batch,
@@ -143,7 +143,7 @@ impl<S: Alter> Store<S> {
         Ok(Some(text))
     }
 
-    /// Reads the data of a batch that is needed for the overviews of this ward.
+    /// Reads the data about a batch that the overviews of the given ward need.
     fn read_batch(&mut self, batch: Batch, ward: u32) -> Result<ReadBatch, Fault>
         ensures { Loads S.Store self.old self.new result (λ s found. read_view found ≡ read_view_of s ward (batch_entry batch)) }
     {
@@ -158,7 +158,7 @@ impl<S: Alter> Store<S> {
         })
     }
 
-    /// Reads batches in order, each as `read_batch` does.
+    /// Reads the given batches in order, each as `read_batch` does.
     fn read_batches(&mut self, batches: Vec<Batch>, ward: u32) -> Result<Vec<ReadBatch>, Fault>
         requires { IsOpen S.Store self.old }
         ensures { Loads S.Store self.old self.new result (λ s found. map read_view found.items ≡ map (read_view_of s ward) (map batch_entry batches.items)) }
@@ -183,8 +183,8 @@ impl<S: Alter> Store<S> {
         Ok(found)
     }
 
-    /// Returns the overviews of the batches of the ward with this number, ordered by batch number; `None` if there is
-    /// no such ward. The batches of all wards are read once, one after another, each with its keyings of the current
+    /// Returns the overviews of the batches of the ward with the given number, ordered by batch number; `None` if there
+    /// is no such ward. The batches of all wards are read once, one after another, each with its keyings of the current
     /// round, because a batch's twin may belong to another ward. The papers of taken batches are held in memory as
     /// texts, which are compared to find twins. Changes nothing, and doesn't add to the states that a stop may leave
     /// behind. Returns `Memory` or `Store` if a row can't be read.

@@ -1,4 +1,4 @@
-//! A batch's clerks, and which of them have keyed it, read from the tables.
+//! The clerks of a batch, and which of them have keyed it, read from the tables.
 
 ghost use Rattle.std.specs.Prelude.{◌≡◌, map, IfOk};
 ghost use Rattle.register.specs.Offices.{batch_entry};
@@ -13,14 +13,14 @@ use sqlite::Alter;
 use std::alloc::{AllocError, Global};
 use tables::Fault;
 
-/// A clerk (1 to 999) of a batch, and whether the clerk has keyed its current round.
+/// A clerk (1 to 999) of a batch, and whether that clerk has keyed the batch's current round.
 #[derive(Clone, Copy, PartialEq, Eq)]
 pub struct ClerkOverview {
     pub clerk: u32,
     pub keyed: bool,
 }
 
-/// Returns the numbers of the clerks of a batch, as a list.
+/// Returns the numbers of a batch's clerks, as a list.
 pub(crate) fn clerk_list(alloc: Global, clerks: Clerks) -> Result<Vec<u32>, AllocError>
     ensures { IfOk result (λ numbers. numbers.items ≡ clerk_list clerks) }
 {
@@ -34,7 +34,7 @@ pub(crate) fn clerk_list(alloc: Global, clerks: Clerks) -> Result<Vec<u32>, Allo
 }
 
 impl<S: Alter> Store<S> {
-    /// Returns one of a batch's clerks, and whether that clerk has keyed its current round.
+    /// Returns one of a batch's clerks, and whether that clerk has keyed the batch's current round.
     fn clerk_overview(&mut self, batch: &Batch, clerk: u32) -> Result<ClerkOverview, Fault>
         ensures { Loads S.Store self.old self.new result (λ s found. clerk_view found ≡ clerk_view_of s (batch_entry batch.now) clerk) }
     {
@@ -42,7 +42,7 @@ impl<S: Alter> Store<S> {
         Ok(ClerkOverview { clerk, keyed })
     }
 
-    /// Returns the overviews of these clerks, in order.
+    /// Returns the overviews of the given clerks, in order.
     pub(crate) fn clerk_overviews(
         &mut self,
         batch: &Batch,

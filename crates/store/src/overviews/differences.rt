@@ -24,7 +24,7 @@ pub struct Differences {
     pub papers: Vec<u32>,
 }
 
-/// Returns whether a keying has this paper with these marks.
+/// Returns whether `keying` has the same paper as `keyed`, with the same marks.
 fn has_alike(keyed: &KeyedPaper, keying: &[KeyedPaper]) -> bool
     ensures { result ≡ has_alike (keyed_entry keyed.now) (map keyed_entry keying.now) }
 {
@@ -37,15 +37,15 @@ fn has_alike(keyed: &KeyedPaper, keying: &[KeyedPaper]) -> bool
 }
 
 #[tactic(auto, using(crate::proofs::OverviewLemmas::apart_two))]
-/// Returns whether at least one of the two other keyings exists and has the paper with different marks.
+/// Returns whether at least one of the other two keyings exists and has different marks on the paper.
 fn differs_in(keyed: &KeyedPaper, second: &[KeyedPaper], third: &[KeyedPaper]) -> bool
     ensures { result ≡ differs_in (filter is_keyed (map keyed_entry second.now ∷ map keyed_entry third.now ∷ [])) (keyed_entry keyed.now) }
 {
     (is_keyed(second) & !has_alike(keyed, second)) | (is_keyed(third) & !has_alike(keyed, third))
 }
 
-/// Returns the numbers of those papers of one keying that at least one of the two others has with different marks. A
-/// keying that doesn't exist is ignored.
+/// Returns the numbers of the papers in one keying on which at least one of the other two has different marks. A keying
+/// that doesn't exist is ignored.
 fn differing_among(
     alloc: Global,
     keying: &[KeyedPaper],
@@ -64,8 +64,8 @@ fn differing_among(
 }
 
 #[tactic(auto, using(crate::proofs::OverviewLemmas::apart_three))]
-/// Returns the numbers of the papers on which these keyings differ: those that another keying has with different marks
-/// than the first existing one.
+/// Returns the numbers of the papers on which the given keyings differ: those on which another keying has different
+/// marks from the first existing one.
 fn differing_papers(alloc: Global, keyings: &Keyings) -> Result<Vec<u32>, AllocError>
     ensures { IfOk result (λ papers. papers.items ≡ differing_papers (keyings_by keyings.now)) }
 {
@@ -82,7 +82,7 @@ fn differing_papers(alloc: Global, keyings: &Keyings) -> Result<Vec<u32>, AllocE
     }
 }
 
-/// Returns a batch, and where these keyings of its current round differ. The only error is `Memory`.
+/// Returns a batch, and where the given keyings of its current round differ. The only error is `Memory`.
 fn differences_by(alloc: Global, batch: Batch, keyings: &Keyings) -> Result<Differences, Fault>
     ensures is { IfOk result (λ found. differences_view found ≡ differences_by (batch_entry batch) (keyings_by keyings.now)) }
     ensures cause { IfErr result (λ f. f ≡ Fault.Memory) }
@@ -107,10 +107,10 @@ impl<S: Alter> Store<S> {
         Ok(found)
     }
 
-    /// Returns the batch with this number, if there is one; whether its keyings differ; and the numbers of the papers
-    /// on which keyings of its current round differ, ordered by paper. The numbers are returned even if two of three
-    /// keyings are equal. Changes nothing, and doesn't add to the states that a stop may leave behind. Returns `Memory`
-    /// or `Store` if a row can't be read.
+    /// Returns the batch with the given number, if there is one; whether its keyings differ; and the numbers of the
+    /// papers on which keyings of its current round differ, ordered by paper. The numbers are returned even if two of
+    /// three keyings are equal. Changes nothing, and doesn't add to the states that a stop may leave behind. Returns
+    /// `Memory` or `Store` if a row can't be read.
     pub fn load_differences(&mut self, batch: u32) -> Result<Option<Differences>, Fault>
         ensures { Loads S.Store self.old self.new result (λ s found. option_map differences_view found ≡ differences_at s batch) }
     {

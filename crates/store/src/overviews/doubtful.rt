@@ -45,7 +45,7 @@ fn copy_of(judged: &JudgedPaper) -> Result<JudgedPaper, AllocError>
     })
 }
 
-/// Returns the verdict on the paper with this number, if there is one among these.
+/// Returns the verdict on the paper with the given number, if `verdicts` contains one.
 fn verdict_on(verdicts: &[JudgedPaper], paper: u32) -> Result<Option<JudgedPaper>, AllocError>
     ensures { IfOk result (λ found. option_map judged_entry found ≡ verdict_on (map judged_entry verdicts.now) paper) }
 {
@@ -57,8 +57,8 @@ fn verdict_on(verdicts: &[JudgedPaper], paper: u32) -> Result<Option<JudgedPaper
     Ok(None)
 }
 
-/// Returns a doubtful paper as it is counted with the columns of its ward, and the verdict on it, if there is one among
-/// these.
+/// Returns a doubtful paper as it is counted with the columns of its ward, and the verdict on it, if `verdicts`
+/// contains one.
 fn doubtful_paper(
     columns: Columns,
     verdicts: &[JudgedPaper],
@@ -77,7 +77,7 @@ fn doubtful_paper(
     })
 }
 
-/// Appends the doubtful papers among these to `found`, each with the verdict on it, if there is one among these.
+/// Appends the doubtful papers among `papers` to `found`, each with the verdict on it, if `verdicts` contains one.
 fn put_doubtful(
     found: &mut Vec<DoubtfulPaper>,
     columns: Columns,
@@ -95,7 +95,7 @@ fn put_doubtful(
 }
 
 impl<S: Alter> Store<S> {
-    /// Appends the doubtful papers of a batch, if it is taken, to others. The columns are those of its ward.
+    /// Appends the doubtful papers of a batch, if it is taken, to `before`. The columns are those of its ward.
     fn batch_doubtful(
         &mut self,
         before: Vec<DoubtfulPaper>,
@@ -119,7 +119,8 @@ impl<S: Alter> Store<S> {
         Ok(found)
     }
 
-    /// Returns the doubtful papers of batches, which are read one after another. The columns are those of their ward.
+    /// Returns the doubtful papers of the given batches, which are read one after another. The columns are those of
+    /// their ward.
     fn all_doubtful(
         &mut self,
         columns: Columns,
@@ -146,8 +147,8 @@ impl<S: Alter> Store<S> {
         Ok(DoubtfulPapers { candidates, papers })
     }
 
-    /// Returns the doubtful papers of the taken batches of the ward with this number, ordered by batch and paper, and
-    /// the ward's candidates; `None` if there is no such ward. Each paper is returned as it is counted, with the
+    /// Returns the doubtful papers of the taken batches of the ward with the given number, ordered by batch and paper,
+    /// and the ward's candidates; `None` if there is no such ward. Each paper is returned as it is counted, with the
     /// verdict on it, if there is one. The ward's batches are read one after another, each with its keyings of the
     /// current round and the verdicts on its papers. Changes nothing, and doesn't add to the states that a stop may
     /// leave behind. Returns `Memory` or `Store` if a row can't be read.

@@ -14,7 +14,7 @@ use register::Batch;
 use sqlite::Alter;
 use tables::Fault;
 
-/// Returns the cache entry of a batch with this overview and, if it is taken, these papers.
+/// Returns the cache entry of a batch with the given overview and, if it is taken, the given papers.
 fn known_with(overview: BatchOverview, papers: &Option<String>) -> CachedBatch
     ensures { known_view result ≡ record { view = batch_view overview; pile = option_map checksum (option_map string_bytes papers.now) } }
 {
@@ -35,7 +35,7 @@ impl<S: Alter> Store<S> {
         Ok(known_with(overview, &papers))
     }
 
-    /// Returns a copy of a batch's cache entry, if it is at this index; otherwise reads it.
+    /// Returns a copy of a batch's cache entry if it is at the given index; otherwise reads the entry.
     fn known_or_read(
         &mut self,
         known: &[CachedBatch],
@@ -54,7 +54,7 @@ impl<S: Alter> Store<S> {
         }
     }
 
-    /// Returns the cache entries of these batches in the same order, reading those that are missing.
+    /// Returns the cache entries of the given batches in the same order, reading those that are missing.
     fn all_known(
         &mut self,
         known: &[CachedBatch],
@@ -75,7 +75,7 @@ impl<S: Alter> Store<S> {
         Ok(found)
     }
 
-    /// Returns the cache entry of every batch: the existing one, or else a new one that is read.
+    /// Returns the cache entry of every batch: the existing one, or else one newly read.
     fn refreshed(&mut self, known: &[CachedBatch]) -> Result<Vec<CachedBatch>, Fault>
         ensures { Loads S.Store self.old self.new result (λ s found. AreKnown s known.now → KnowsAll s found.items) }
     {
@@ -84,8 +84,8 @@ impl<S: Alter> Store<S> {
         Ok(found)
     }
 
-    /// Refreshes the cache, after which it contains every batch. Reads the rows of all batches, and the papers of those
-    /// that weren't cached.
+    /// Refreshes the cache so that it contains every batch. Reads the rows of all batches, and the papers of those that
+    /// weren't cached.
     pub(crate) fn refresh(&mut self, known: &mut Vec<CachedBatch>) -> Result<(), Fault>
         ensures refreshes { Loads S.Store self.old self.new result (λ s _. AreKnown s known.old.items → KnowsAll s known.new.items) }
         ensures stays { StaysKnown (state S.Store self.old) (state S.Store self.new) known.old.items known.new.items }

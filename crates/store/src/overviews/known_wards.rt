@@ -23,7 +23,7 @@ use sqlite::Alter;
 use std::alloc::{AllocError, Global};
 use tables::Fault;
 
-/// Appends the overview of a batch to others, if the batch belongs to this ward.
+/// Appends the overview of a batch to `found` if the batch belongs to the given ward.
 fn put_own(
     alloc: Global,
     found: &mut Vec<BatchOverview>,
@@ -54,7 +54,7 @@ fn overviews_in(
     Ok(found)
 }
 
-/// Returns the tally of a batch with this overview.
+/// Returns the tally of a batch with the given overview.
 fn tally_by(overview: &BatchOverview) -> Tally
     ensures { result ≡ tally_at overview.now.standing overview.now.doubtful_open }
 {
@@ -77,7 +77,7 @@ fn tally_by(overview: &BatchOverview) -> Tally
     }
 }
 
-/// Returns the tally of batches with these overviews.
+/// Returns the tally of the batches with the given overviews.
 fn tally_among(overviews: &[BatchOverview]) -> Tally
     ensures { (s : OfficeState) (bs : List BatchEntry) → map batch_view overviews.now ≡ views_of s bs → IsTally s bs result }
 {
@@ -93,7 +93,7 @@ fn tally_among(overviews: &[BatchOverview]) -> Tally
 }
 
 impl<S: Alter> Store<S> {
-    /// Returns the status of a ward whose batches have these overviews.
+    /// Returns the status of a ward whose batches have the given overviews.
     fn status_by(&mut self, ward: &Ward, batches: &[BatchOverview]) -> Result<Status, Fault>
         ensures { Loads S.Store self.old self.new result (λ s found.
             map batch_view batches.now ≡ views_of s (batches_of s ward.now.number)
@@ -139,7 +139,7 @@ impl<S: Alter> Store<S> {
         })
     }
 
-    /// Returns the overviews of these wards, which are all wards of an office, from the cached batches.
+    /// Returns the overviews of the given wards, which are all the wards of an office, from the cached batches.
     fn ward_overviews_by(
         &mut self,
         known: &[CachedBatch],
@@ -158,7 +158,7 @@ impl<S: Alter> Store<S> {
         Ok(found)
     }
 
-    /// Returns the same as `load_wards`, from the cache, after refreshing it.
+    /// Returns the same result as `load_wards`, from the cache, after refreshing it.
     pub(crate) fn wards_with(
         &mut self,
         known: &mut Vec<CachedBatch>,
@@ -172,7 +172,7 @@ impl<S: Alter> Store<S> {
         Ok(found)
     }
 
-    /// Returns the status of the ward with this number, if there is one, from the cached batches.
+    /// Returns the status of the ward with the given number, if there is one, from the cached batches.
     fn status_at_by(&mut self, known: &[CachedBatch], ward: u32) -> Result<Option<Status>, Fault>
         ensures { Loads S.Store self.old self.new result (λ s found. KnowsAll s known.now → option_map status_entry found ≡ status_at s ward) }
     {
@@ -186,7 +186,7 @@ impl<S: Alter> Store<S> {
         }
     }
 
-    /// Returns the same as `load_status`, from the cache, after refreshing it.
+    /// Returns the same result as `load_status`, from the cache, after refreshing it.
     pub(crate) fn status_with(
         &mut self,
         known: &mut Vec<CachedBatch>,
@@ -200,7 +200,7 @@ impl<S: Alter> Store<S> {
         Ok(found)
     }
 
-    /// Returns the next step in a ward that was found with its count, from the cached batches.
+    /// Returns the next step in the given ward, which was found with its count, from the cached batches.
     fn step_by(&mut self, known: &[CachedBatch], found: CountedWard) -> Result<NextStep, Fault>
         requires { IsOpen S.Store self.old }
         ensures { Loads S.Store self.old self.new result (λ s step. (w : WardEntry) → IsCountedWard (election_of s w) found → KnowsAll s known.now → step_entry step ≡ next_of s w) }
@@ -214,7 +214,7 @@ impl<S: Alter> Store<S> {
         }
     }
 
-    /// Returns the next step in the ward with this number, if there is one, from the cached batches.
+    /// Returns the next step in the ward with the given number, if there is one, from the cached batches.
     fn next_by(&mut self, known: &[CachedBatch], ward: u32) -> Result<Option<NextStep>, Fault>
         ensures { Loads S.Store self.old self.new result (λ s found. KnowsAll s known.now → option_map step_entry found ≡ next_at s ward) }
     {
@@ -228,7 +228,7 @@ impl<S: Alter> Store<S> {
         }
     }
 
-    /// Returns the same as `load_next`, from the cache, after refreshing it.
+    /// Returns the same result as `load_next`, from the cache, after refreshing it.
     pub(crate) fn next_with(
         &mut self,
         known: &mut Vec<CachedBatch>,

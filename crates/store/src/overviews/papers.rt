@@ -30,8 +30,8 @@ pub struct CountedPaper {
     pub judgement: Judgement,
 }
 
-/// Whether a batch is taken; the candidates of its ward; and its papers as they are counted, ordered by number. There
-/// are no papers if it isn't taken.
+/// Whether a batch is taken; the candidates of its ward; and its papers as they are counted, ordered by number. It has
+/// no papers if it isn't taken.
 #[derive(Drop)]
 pub struct CountedPapers {
     pub taken: bool,
@@ -39,14 +39,14 @@ pub struct CountedPapers {
     pub papers: Vec<CountedPaper>,
 }
 
-/// The law of papers that are shown as they are counted: those of a ward's batches, one batch after another, have the
-/// judgements on which the ward's count is based. It is a lemma for callers.
+/// The law of papers shown as counted: the papers of a ward's batches, one batch after another, have the judgements on
+/// which the ward's count is based. This is a lemma for callers.
 pub fn papers_told_are_counted()
     ensures { (s : OfficeState) (ward : ℕ) → flat_map (judgements_told s) (batches_of s ward) ≡ judgements (columns_of (candidates_of s ward)) (piles_of s ward) }
 {}
 
-/// Returns the papers of a keying, each as it is counted with the columns of its ward and the verdicts on the papers of
-/// its batch.
+/// Returns the papers of a keying, each as counted with the columns of its ward and the verdicts on the papers of its
+/// batch.
 fn counted_among(
     alloc: Global,
     columns: Columns,
@@ -67,7 +67,7 @@ fn counted_among(
     Ok(found)
 }
 
-/// Returns the papers of a batch as they are counted in a ward with these candidates. The only error is `Memory`.
+/// Returns the papers of a batch as they are counted in a ward with the given candidates. The only error is `Memory`.
 fn papers_by(
     alloc: Global,
     candidates: Vec<Candidate>,
@@ -99,11 +99,11 @@ impl<S: Alter> Store<S> {
         Ok(found)
     }
 
-    /// Returns the papers of the batch with this number as they are counted, with the candidates of its ward; `None` if
-    /// there is no such batch. If the batch is taken, each paper has the judgement by which it is counted; if it isn't,
-    /// there are no papers. The candidates, the keyings of the current round and the verdicts on the papers are read.
-    /// Changes nothing, and doesn't add to the states that a stop may leave behind. Returns `Memory` or `Store` if a
-    /// row can't be read.
+    /// Returns the papers of the batch with the given number as they are counted, with the candidates of its ward;
+    /// `None` if there is no such batch. If the batch is taken, each paper has the judgement by which it is counted; if
+    /// it isn't, there are no papers. The candidates, the keyings of the current round and the verdicts on the papers
+    /// are read. Changes nothing, and doesn't add to the states that a stop may leave behind. Returns `Memory` or
+    /// `Store` if a row can't be read.
     pub fn load_batch_papers(&mut self, batch: u32) -> Result<Option<CountedPapers>, Fault>
         ensures { Loads S.Store self.old self.new result (λ s found. option_map papers_view found ≡ papers_at s batch) }
     {

@@ -14,8 +14,8 @@ use register::KeyedPaper;
 use std::alloc::{AllocError, Global};
 use std::collections::HashMap;
 
-/// The data that was read for a batch: its number; its papers as one text, if it is taken; and its overview without its
-/// twin, if it belongs to the requested ward.
+/// The data read for a batch: its number; its papers as one text, if it is taken; and its overview without its twin, if
+/// it belongs to the requested ward.
 #[derive(Drop)]
 pub(crate) struct ReadBatch {
     pub(crate) number: u32,
@@ -53,8 +53,8 @@ fn put_papers(text: &mut String, papers: &[KeyedPaper]) -> Result<(), AllocError
 }
 
 #[tactic(auto, unfolding(crate::specs::Overviews::pile_text))]
-/// Returns the papers of a batch, and the numbers of its ward's candidates, as one text: two such texts are equal if
-/// and only if the candidate numbers and all papers are equal.
+/// Returns the papers of a batch and the numbers of its ward's candidates as one text. Two such texts are equal if and
+/// only if the candidate numbers and all papers are equal.
 pub(crate) fn pile_text(
     alloc: Global,
     columns: &Columns,
@@ -83,7 +83,7 @@ fn put_under(
     Ok(())
 }
 
-/// Appends the number of a batch that was read to its group, if the batch is taken.
+/// Appends the number of a batch to its group if the batch is taken.
 fn put_batch(
     alloc: Global,
     numbers: &mut HashMap<String, Vec<u32>>,
@@ -97,7 +97,7 @@ fn put_batch(
     }
 }
 
-/// Returns the numbers of the batches that were read, in order, grouped by their piles.
+/// Returns the numbers of the given batches, in order, grouped by their piles.
 pub(crate) fn numbers_by_pile(
     alloc: Global,
     batches: &[ReadBatch],
@@ -111,7 +111,7 @@ pub(crate) fn numbers_by_pile(
     Ok(numbers)
 }
 
-/// Returns the first of these numbers that isn't `number`.
+/// Returns the first of the given numbers that isn't `number`.
 fn first_other(numbers: &[u32], number: u32) -> Option<u32>
     ensures { result ≡ find (λ n. not (n == number)) numbers.now }
 {
@@ -123,7 +123,7 @@ fn first_other(numbers: &[u32], number: u32) -> Option<u32>
     None
 }
 
-/// Returns the first other batch with the same pile as this one, if there is one.
+/// Returns the first other batch with the same pile as the given one, if there is one.
 fn twin_under(
     numbers: &HashMap<String, Vec<u32>>,
     pile: &Option<String>,
@@ -140,7 +140,7 @@ fn twin_under(
     first_other(group, number)
 }
 
-/// Returns the overview of a batch that was read, with its twin, which is found in these numbers.
+/// Returns the overview of a batch, with its twin, which is looked up in `numbers`.
 fn paired(numbers: &HashMap<String, Vec<u32>>, batch: ReadBatch) -> Option<BatchOverview>
     ensures { option_map batch_view result ≡ paired (numbers_under numbers.now) (read_view batch) }
 {
@@ -156,7 +156,7 @@ fn paired(numbers: &HashMap<String, Vec<u32>>, batch: ReadBatch) -> Option<Batch
     }
 }
 
-/// Returns the overviews of batches that were read, in order, each with its twin.
+/// Returns the overviews of the given batches, in order, each with its twin.
 pub(crate) fn all_paired(
     alloc: Global,
     numbers: &HashMap<String, Vec<u32>>,

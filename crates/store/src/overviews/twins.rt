@@ -29,7 +29,7 @@ fn same_sum(one: Option<u64>, other: Option<u64>) -> bool
     }
 }
 
-/// Returns whether another batch may be a batch's twin, by the cache entries of both.
+/// Returns whether two batches may be twins, judging by their cache entries.
 fn may_be_twin(one: &CachedBatch, other: &CachedBatch) -> bool
     ensures { result ≡ may_be_twin one.now other.now }
 {
@@ -46,7 +46,7 @@ fn same_texts(one: &Option<String>, other: &Option<String>) -> bool
     }
 }
 
-/// Appends an overview to others, if there is one.
+/// Appends an overview to others if there is one to append.
 fn put_some(
     found: &mut Vec<BatchOverview>,
     overview: Option<BatchOverview>,
@@ -72,7 +72,7 @@ impl<S: Alter> Store<S> {
         Ok(papers)
     }
 
-    /// Returns whether two taken batches have the same papers, and their wards have the same candidate numbers.
+    /// Returns whether two taken batches have the same papers and their wards have the same candidate numbers.
     fn have_same_papers(&mut self, one: &Batch, other: &Batch) -> Result<bool, Fault>
         ensures { Loads S.Store self.old self.new result (λ s found. is_taken s (batch_entry one.now) ≡ true → is_taken s (batch_entry other.now) ≡ true
             → found ≡ bytes_eq (pile_text_of s (batch_entry one.now)) (pile_text_of s (batch_entry other.now))) }
@@ -95,7 +95,7 @@ impl<S: Alter> Store<S> {
         Ok(same)
     }
 
-    /// Returns the number of the first of these batches that is a twin of a taken batch.
+    /// Returns the number of the first batch in `known` that is a twin of the given taken batch.
     fn find_twin(&mut self, known: &[CachedBatch], one: &CachedBatch) -> Result<Option<u32>, Fault>
         requires { IsOpen S.Store self.old }
         ensures { Loads S.Store self.old self.new result (λ s found. IsKnown s one.now → is_taken s (row_of one.now) ≡ true → AreKnown s known.now
@@ -137,7 +137,7 @@ impl<S: Alter> Store<S> {
         }
     }
 
-    /// Returns the same if the batch belongs to this ward, otherwise `None`.
+    /// Returns the result of `with_twin` if the batch belongs to the given ward, otherwise `None`.
     fn with_twin_in(
         &mut self,
         known: &[CachedBatch],
@@ -174,7 +174,7 @@ impl<S: Alter> Store<S> {
         Ok(found)
     }
 
-    /// Returns the overviews of the batches of the ward with this number, ordered by batch number, from the cached
+    /// Returns the overviews of the batches of the ward with the given number, ordered by batch number, from the cached
     /// batches; `None` if there is no such ward.
     fn batches_by(
         &mut self,
@@ -194,7 +194,7 @@ impl<S: Alter> Store<S> {
         }
     }
 
-    /// Returns the same as `load_batches`, from the cache, after refreshing it.
+    /// Returns the same result as `load_batches`, from the cache, after refreshing it.
     pub(crate) fn batches_with(
         &mut self,
         known: &mut Vec<CachedBatch>,

@@ -14,7 +14,7 @@ use register::{Candidate, CountedWard, Phase, Status, Ward};
 use sqlite::Alter;
 use tables::Fault;
 
-/// A ward, its status, and, once it is declared, the elected candidates and all candidates.
+/// A ward and its status; and, once it has been declared, the elected candidates and all candidates.
 #[derive(Drop)]
 pub struct WardOverview {
     pub ward: Ward,
@@ -23,7 +23,7 @@ pub struct WardOverview {
     pub candidates: Vec<Candidate>,
 }
 
-/// Returns the elected candidates; in an uncontested ward these are all its candidates.
+/// Returns the elected candidates. In an uncontested ward, all the candidates are elected.
 pub fn elected_in(counted: &CountedWard) -> Columns
     ensures { (e : ElectionEntry) → IsCountedWard e counted.now → is_counted e.ward.phase ≡ true → result ≡ elected_of e }
 {
@@ -77,7 +77,7 @@ impl<S: Alter> Store<S> {
         })
     }
 
-    /// Returns the overviews of these wards, which are all wards of an office. They are read one after another.
+    /// Returns the overviews of the given wards, which are all the wards of an office. They are read one after another.
     fn ward_overviews(&mut self, wards: Vec<Ward>) -> Result<Vec<WardOverview>, Fault>
         requires { IsOpen S.Store self.old }
         ensures { Loads S.Store self.old self.new result (λ s found. map ward_entry wards.items ≡ s.wards → map ward_view found.items ≡ ward_views s) }
@@ -92,9 +92,9 @@ impl<S: Alter> Store<S> {
         Ok(found)
     }
 
-    /// Returns the overviews of all wards, ordered by number, each with its status and its candidates. Once a ward is
-    /// declared, its overview has the elected candidates, according to its stored count. Changes nothing, and doesn't
-    /// add to the states that a stop may leave behind. Returns `Memory` or `Store` if a row can't be read.
+    /// Returns the overviews of all wards, ordered by number, each with its status and its candidates. Once a ward has
+    /// been declared, its overview has the elected candidates, according to its stored count. Changes nothing, and
+    /// doesn't add to the states that a stop may leave behind. Returns `Memory` or `Store` if a row can't be read.
     pub fn load_wards(&mut self) -> Result<Vec<WardOverview>, Fault>
         ensures { Loads S.Store self.old self.new result (λ s found. map ward_view found.items ≡ ward_views s) }
     {

@@ -18,7 +18,7 @@ use tables::value_conversion::number;
 use tables::{Fault, Reference};
 
 impl<S: Alter> Store<S> {
-    /// Returns the batch with this number, if there is one.
+    /// Returns the batch with the given number, if there is one.
     pub(crate) fn find_batch(&mut self, batch: u32) -> Result<Option<Batch>, Fault>
         ensures { Loads S.Store self.old self.new result (λ s found. option_map batch_entry found ≡ batch_at s batch) }
     {
@@ -44,14 +44,14 @@ impl<S: Alter> Store<S> {
         entries_beginning::<Batches, S>(self.alloc, &mut self.conn, &[])
     }
 
-    /// Returns the third clerk of the batch with this number, if one is assigned.
+    /// Returns the third clerk of the batch with the given number, if one is assigned.
     pub(crate) fn find_third(&mut self, batch: u32) -> Result<Option<ThirdClerk>, Fault>
         ensures { Loads S.Store self.old self.new result (λ s found. option_map third_entry found ≡ third_at s batch) }
     {
         find_entry::<ThirdClerks, S>(&mut self.conn, &[number(batch)])
     }
 
-    /// Returns the input of a command that needs a ward and a batch.
+    /// Returns the input for a command that needs a ward and a batch.
     pub(crate) fn new_batch_part(&mut self, ward: u32, batch: u32) -> Result<CommandInput, Fault>
         ensures { Loads S.Store self.old self.new result (λ s part. input_entries part ≡ record empty_input { ward = ward_at s ward; batch = batch_at s batch }) }
     {
@@ -60,7 +60,7 @@ impl<S: Alter> Store<S> {
         Ok(CommandInput { batch, ..part })
     }
 
-    /// Returns the input of a command that needs a batch, its ward, its third clerk and the keyings of its round.
+    /// Returns the input for a command that needs a batch, its ward, its third clerk and the keyings of its round.
     pub(crate) fn third_part(&mut self, batch: u32) -> Result<CommandInput, Fault>
         ensures { Loads S.Store self.old self.new result
             (λ s part. input_entries part ≡ record empty_input {
@@ -91,7 +91,7 @@ impl<S: Alter> Store<S> {
         })
     }
 
-    /// Returns the input of a command that needs a batch, its ward and the keyings of its round.
+    /// Returns the input for a command that needs a batch, its ward and the keyings of its round.
     pub(crate) fn again_part(&mut self, batch: u32) -> Result<CommandInput, Fault>
         ensures { Loads S.Store self.old self.new result
             (λ s part. input_entries part ≡ record empty_input { ward = ward_for s (batch_at s batch); batch = batch_at s batch; keyings = keyings_for s (batch_at s batch) }) }

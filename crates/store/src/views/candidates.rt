@@ -15,7 +15,7 @@ use tables::finding::{entries_beginning, find_entry};
 use tables::value_conversion::number;
 
 impl<S: Alter> Store<S> {
-    /// Returns the candidate with this number in this ward, if there is one.
+    /// Returns the candidate with the given number in the given ward, if there is one.
     pub(crate) fn find_candidate(
         &mut self,
         ward: u32,
@@ -33,7 +33,7 @@ impl<S: Alter> Store<S> {
         entries_beginning::<Candidates, S>(self.alloc, &mut self.conn, &[number(ward)])
     }
 
-    /// Returns the ward with this number and its candidates, if there is one. Its count isn't read.
+    /// Returns the ward with the given number and its candidates, if there is one. Its count isn't read.
     pub(crate) fn find_contest(&mut self, ward: u32) -> Result<Option<CountedWard>, Fault>
         ensures { Loads S.Store self.old self.new result (λ s. IsContestAt s ward) }
     {
@@ -49,7 +49,7 @@ impl<S: Alter> Store<S> {
         }))
     }
 
-    /// Returns the input of a command that needs a ward and its candidates.
+    /// Returns the input for a command that needs a ward and its candidates.
     pub(crate) fn contest_part(&mut self, ward: u32) -> Result<CommandInput, Fault>
         ensures { Loads S.Store self.old self.new result (λ s part. input_entries part ≡ record empty_input { ward = ward_at s ward; candidates = candidates_of s ward }) }
     {
@@ -58,7 +58,7 @@ impl<S: Alter> Store<S> {
         Ok(CommandInput { candidates, ..part })
     }
 
-    /// Returns the input of a command that needs a ward and one of its candidates.
+    /// Returns the input for a command that needs a ward and one of its candidates.
     pub(crate) fn candidate_part(
         &mut self,
         ward: u32,

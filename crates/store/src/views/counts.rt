@@ -1,4 +1,4 @@
-//! The inputs of commands about a ward's count, read for a request.
+//! The inputs for commands about a ward's count, read for a request.
 
 ghost use Rattle.std.specs.Prelude.{◌≡◌, ◌≤◌, true, Option, MatchOption, option_map, IfOk, IfErr, IsOk};
 ghost use Rattle.votes.specs.Units.{max_seats};
@@ -20,8 +20,8 @@ use sqlite::Alter;
 use std::alloc::Global;
 use tables::Fault;
 
-/// Returns the input of a command that needs the poll of an election, if there is one. It fails only if the ward has no
-/// seats or too many, which is never the case in an office.
+/// Returns the input for a command that needs the poll of an election, if there is one. It fails only if the ward has
+/// no seats or too many, which never happens in an office.
 fn polled(alloc: Global, found: Option<Election>) -> Result<CommandInput, Fault>
     ensures part { IfOk result (λ part. (entry : Option ElectionEntry) → IsFoundFor found entry → input_entries part ≡ polled_part entry) }
     ensures cause { IfErr result (λ f. f ≡ Fault.Store) }
@@ -55,7 +55,7 @@ fn progress_of(found: &CountedWard) -> Progress
     }
 }
 
-/// Returns the input of a command that needs the count of a ward, if there is one: what is due in it, the elected
+/// Returns the input for a command that needs the count of a ward, if there is one: what it requires next, the elected
 /// candidates, and the count itself.
 fn counted(alloc: Global, found: Option<CountedWard>) -> CommandInput
     ensures part { (entry : Option ElectionEntry) → IsCountedFor entry found → input_entries result ≡ counted_part entry }
@@ -76,7 +76,7 @@ fn counted(alloc: Global, found: Option<CountedWard>) -> CommandInput
 }
 
 impl<S: Alter> Store<S> {
-    /// Returns the input of the command that seals a ward: the ward, and the poll of its papers.
+    /// Returns the input for the command that seals a ward: the ward, and the poll of its papers.
     pub(crate) fn seal_part(&mut self, ward: u32) -> Result<CommandInput, Fault>
         ensures { Loads S.Store self.old self.new result (λ s part. input_entries part ≡ record empty_input { ward = ward_at s ward; poll = poll_for s (ward_at s ward) }) }
     {
@@ -86,7 +86,7 @@ impl<S: Alter> Store<S> {
     }
 
     /// Returns the count of a contested ward before its first stage, begun from its papers, and how many of the papers
-    /// are rejected. `None` if the ward has too many seats, which is never the case in an office.
+    /// are rejected. Returns `None` if the ward has too many seats, which never happens in an office.
     pub(crate) fn begin_sheet(&mut self, contest: CountedWard) -> Result<Option<WardSheet>, Fault>
         ensures { Loads S.Store self.old self.new result
             (λ s found. WasFound s contest → has_count (election_in s contest) ≡ true → contest.ward.done ≡ 0 → IsBegun (election_in s contest) found) }
@@ -99,8 +99,8 @@ impl<S: Alter> Store<S> {
         }
     }
 
-    /// Returns the count of a contested ward that has a stage, as it was stored, from the tabulation alone. `None` if
-    /// the tabulation is not that of any count; in an office it always is.
+    /// Returns the count of a contested ward that has a stage, as it was stored, from the tabulation alone. Returns
+    /// `None` if no count has this tabulation, which never happens in an office.
     pub(crate) fn resume_count(
         &mut self,
         contest: CountedWard,
@@ -118,7 +118,8 @@ impl<S: Alter> Store<S> {
         }
     }
 
-    /// Returns the count of a contested ward: begun from its papers if no stage is done, otherwise from the tabulation alone.
+    /// Returns the count of a contested ward: begun from its papers if no stage has been done, otherwise read from the
+    /// tabulation alone.
     pub(crate) fn contested_count(
         &mut self,
         contest: CountedWard,
@@ -136,7 +137,7 @@ impl<S: Alter> Store<S> {
         }
     }
 
-    /// Returns the ward with this number, if there is one, and its count if it is contested.
+    /// Returns the ward with the given number, if there is one, and its count if it is contested.
     fn find_count(&mut self, ward: u32) -> Result<Option<CountedWard>, Fault>
         ensures { Loads S.Store self.old self.new result (λ s found. IsCountedFor (option_map (election_of s) (ward_at s ward)) found) }
     {
@@ -154,8 +155,8 @@ impl<S: Alter> Store<S> {
         Ok(count)
     }
 
-    /// Returns the input of a command that needs the progress of a ward's count: the ward, what is due, the elected
-    /// candidates, and the count itself.
+    /// Returns the input for a command that needs the progress of a ward's count: the ward, what the count requires
+    /// next, the elected candidates, and the count itself.
     pub(crate) fn count_part(&mut self, ward: u32) -> Result<CommandInput, Fault>
         ensures { Loads S.Store self.old self.new result
             (λ s part. (input_entries part ≡ record empty_input { ward = ward_at s ward; due = due_for s (ward_at s ward); elected = elected_for s (ward_at s ward) })
@@ -165,7 +166,7 @@ impl<S: Alter> Store<S> {
         Ok(counted(self.allocator(), found))
     }
 
-    /// Returns the input of the command about a lot: the progress of the ward's count, and the candidate.
+    /// Returns the input for the command about a lot: the progress of the ward's count, and the candidate.
     pub(crate) fn lot_part(&mut self, ward: u32, candidate: u32) -> Result<CommandInput, Fault>
         ensures { Loads S.Store self.old self.new result
             (λ s part. input_entries part ≡ record empty_input {

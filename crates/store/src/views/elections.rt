@@ -21,7 +21,7 @@ use tables::Fault;
 use tables::finding::entries_beginning;
 use tables::value_conversion::number;
 
-/// Adds the papers of a batch to those of others. The only error is `Memory`, after which the others can't be used.
+/// Adds the papers of a batch to those of other batches. The only error is `Memory`, after which those can't be used.
 fn add_papers<P: KeepsPapers>(
     ballots: &mut Ballots<P>,
     columns: Columns,
@@ -42,7 +42,7 @@ fn add_papers<P: KeepsPapers>(
     }
 }
 
-/// Returns whether a ward was found, and is in count with these candidates.
+/// Returns whether a ward was found and is in count with the given candidates.
 fn is_found_in_count(found: &Option<Ward>, candidates: &[Candidate]) -> bool
     ensures { result ≡ is_counted_with (option_map ward_entry found.now) (map candidate_entry candidates.now) }
 {
@@ -73,7 +73,8 @@ impl<S: Alter> Store<S> {
         }
     }
 
-    /// Returns the ballots of batches, which are read one after another and added to `kept`, an empty collection.
+    /// Returns the ballots of the given batches, which are read one after another and added to `kept`, an empty
+    /// collection.
     fn ballots_of<P: KeepsPapers + Drop>(
         &mut self,
         kept: P,
@@ -92,7 +93,7 @@ impl<S: Alter> Store<S> {
         Ok(ballots)
     }
 
-    /// Returns the ballots of a ward with these columns. If the ward is in count, its papers are read as those of
+    /// Returns the ballots of a ward with the given columns. If the ward is in count, its papers are read as those of
     /// settled batches; otherwise the keyings of all clerks are read, one batch after another.
     pub(crate) fn ward_ballots<P: KeepsPapers + Drop>(
         &mut self,
@@ -114,8 +115,8 @@ impl<S: Alter> Store<S> {
         Ok(ballots)
     }
 
-    /// Returns the ballots of the ward with this number, added to `kept`, an empty collection. The columns are those of
-    /// the ward's candidates.
+    /// Returns the ballots of the ward with the given number, added to `kept`, an empty collection. The columns are
+    /// those of the ward's candidates.
     pub(crate) fn find_ballots<P: KeepsPapers + Drop>(
         &mut self,
         kept: P,
@@ -132,7 +133,7 @@ impl<S: Alter> Store<S> {
         Ok(ballots)
     }
 
-    /// Returns the election in a ward that was found with its candidates.
+    /// Returns the election in the given ward, which was found with its candidates.
     pub(crate) fn ward_election(&mut self, contest: CountedWard) -> Result<Election, Fault>
         ensures { Loads S.Store self.old self.new result (λ s found. WasFound s contest → IsElection found (election_in s contest)) }
     {
@@ -149,7 +150,7 @@ impl<S: Alter> Store<S> {
         })
     }
 
-    /// Returns the election in the ward with this number, if there is one.
+    /// Returns the election in the ward with the given number, if there is one.
     pub(crate) fn find_election(&mut self, ward: u32) -> Result<Option<Election>, Fault>
         ensures { Loads S.Store self.old self.new result (λ s found. IsFoundFor found (option_map (election_of s) (ward_at s ward))) }
     {

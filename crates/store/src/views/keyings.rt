@@ -1,9 +1,9 @@
-//! The keying of a batch by a clerk, read for a request.
+//! A clerk's keying of a batch, read for a request.
 //!
 //! The papers of a keying are inserted in one transaction, in order. In most offices their rows are therefore adjacent,
-//! and are read as a run, which takes half the time of finding each by its key. The rows themselves show whether they
-//! are the keying. If they aren't, as in an office whose rows were inserted in a different order, each paper is found
-//! by its key.
+//! and are read as a run, which takes half the time it takes to find each by its key. The rows themselves show whether
+//! they are the keying. If they aren't, for example in an office whose rows were inserted in a different order, each
+//! paper is found by its key.
 
 ghost use Rattle.std.specs.Prelude.{◌≡◌, ◌&&◌, ⊤, map, IfSome};
 ghost use Rattle.std.specs.List.{AllByRecursion, list_all};
@@ -24,7 +24,7 @@ use tables::value_conversion::number;
 use tables::{Fault, Table};
 
 #[tactic(auto, unfolding(register::specs::BatchConditions::are_numbered))]
-/// Returns whether papers are numbered consecutively from 1.
+/// Returns whether the papers are numbered consecutively, starting from 1.
 fn are_numbered(papers: &[KeyedPaper]) -> bool
     ensures { result ≡ are_numbered 1 (map keyed_entry papers.now) }
 {
@@ -36,7 +36,7 @@ fn are_numbered(papers: &[KeyedPaper]) -> bool
     true
 }
 
-/// Returns whether each of these papers belongs to a clerk's keying of a batch in a round.
+/// Returns whether each of the given papers belongs to the given clerk's keying of a batch in a round.
 fn are_papers_of(batch: u32, round: u32, clerk: u32, papers: &[KeyedPaper]) -> bool
     ensures { result ≡ list_all (λ k. is_paper_of batch round clerk (keyed_entry k)) papers.now }
 {
@@ -45,7 +45,8 @@ fn are_papers_of(batch: u32, round: u32, clerk: u32, papers: &[KeyedPaper]) -> b
     })
 }
 
-/// Returns whether papers are those of a clerk's keying of a batch in a round: each paper from 1 to `size` once, in order.
+/// Returns whether the papers are those of the given clerk's keying of a batch in a round: each paper from 1 to `size`,
+/// exactly once and in order.
 fn is_keying(batch: u32, round: u32, clerk: u32, size: u32, papers: &[KeyedPaper]) -> bool
     ensures { result ≡ (is_whole size (map keyed_entry papers.now) && list_all (λ k. is_paper_of batch round clerk (keyed_entry k)) papers.now) }
 {
@@ -55,7 +56,7 @@ fn is_keying(batch: u32, round: u32, clerk: u32, size: u32, papers: &[KeyedPaper
 }
 
 impl<S: Alter> Store<S> {
-    /// Returns the papers of a batch that a clerk keyed in a round, in order, each found by its key.
+    /// Returns the papers that the given clerk keyed for a batch in a round, in order, each found by its key.
     fn list_by_key(&mut self, batch: u32, round: u32, clerk: u32) -> Result<Vec<KeyedPaper>, Fault>
         ensures { Loads S.Store self.old self.new result (λ s found. map keyed_entry found.items ≡ keying_of s batch round clerk) }
     {
@@ -63,8 +64,8 @@ impl<S: Alter> Store<S> {
         entries_beginning::<KeyedPapers, S>(self.alloc, &mut self.conn, &key)
     }
 
-    /// Returns the rowid of the first paper of a keying, if it exists. The state doesn't determine the rowid, and
-    /// neither does any clause: the rows that are read there show whether they are the keying.
+    /// Returns the rowid of the first paper of a keying, if that paper exists. Neither the state nor any clause
+    /// determines the rowid: the rows read from there show whether they are the keying.
     fn find_first(&mut self, batch: u32, round: u32, clerk: u32) -> Result<Option<i64>, Fault>
         ensures { Loads S.Store self.old self.new result (λ s found. ⊤) }
     {
@@ -77,14 +78,15 @@ impl<S: Alter> Store<S> {
         find_rowid(&mut self.conn, Table::Keying, &key)
     }
 
-    /// Returns the keyed papers with rowids in a range, both ends included. Each is a paper of the state.
+    /// Returns the keyed papers whose rowids are in the given range, both ends included. Each is a paper of the state.
     fn list_between(&mut self, low: i64, high: i64) -> Result<Vec<KeyedPaper>, Fault>
         ensures { Loads S.Store self.old self.new result (λ s found. AllByRecursion (Has s.keyings) (map keyed_entry found.items)) }
     {
         entries_between::<KeyedPapers, S>(self.alloc, &mut self.conn, low, high)
     }
 
-    /// Returns as many papers as the batch has, starting with the first one of a keying; empty if that doesn't exist.
+    /// Returns as many papers as the batch has, starting with the first paper of a keying; empty if there is no such
+    /// paper.
     fn list_run(&mut self, batch: &Batch, round: u32, clerk: u32) -> Result<Vec<KeyedPaper>, Fault>
         ensures { Loads S.Store self.old self.new result (λ s found. AllByRecursion (Has s.keyings) (map keyed_entry found.items)) }
     {
@@ -97,7 +99,7 @@ impl<S: Alter> Store<S> {
         Ok(papers)
     }
 
-    /// Returns the papers of a batch that a clerk keyed in a round, in order, if their rows are adjacent.
+    /// Returns the papers that the given clerk keyed for a batch in a round, in order, if their rows are adjacent.
     fn find_run(
         &mut self,
         batch: u32,
@@ -117,7 +119,7 @@ impl<S: Alter> Store<S> {
         Ok(Some(papers))
     }
 
-    /// Returns the papers of a batch that a clerk keyed in a round, in order.
+    /// Returns the papers that the given clerk keyed for a batch in a round, in order.
     pub(crate) fn list_keying(
         &mut self,
         batch: u32,

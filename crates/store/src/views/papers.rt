@@ -24,7 +24,7 @@ use tables::value_conversion::number;
 pub(crate) const FIRST_PAPER: u32 = 1;
 
 /// The keyings of a batch's current round by its two or three clerks, ordered by the clerks' numbers; and the third
-/// clerk, if one is assigned. Each keying is in the order of its papers; a missing one is empty.
+/// clerk, if one is assigned. The papers of each keying are in order; a missing keying is empty.
 #[derive(Drop)]
 pub(crate) struct Keyings {
     pub(crate) third_clerk: Option<ThirdClerk>,
@@ -41,7 +41,7 @@ pub(crate) struct BatchPapers {
 }
 
 impl Keyings {
-    /// Returns the papers on which these keyings agree; empty if the batch isn't taken.
+    /// Returns the papers on which the keyings agree; empty if the batch isn't taken.
     pub(crate) fn agreed(&self) -> &[KeyedPaper]
         ensures { map keyed_entry result.now ≡ agreed (keyings_by self.now) }
     {
@@ -57,8 +57,8 @@ impl Keyings {
 }
 
 impl<S: Alter> Store<S> {
-    /// Returns whether a clerk has keyed a batch in a round. A keying is never incomplete, so its first paper is enough
-    /// to tell.
+    /// Returns whether the given clerk has keyed a batch in a round. A keying is never incomplete, so its first paper
+    /// is enough to tell.
     pub(crate) fn has_keyed(&mut self, batch: u32, round: u32, clerk: u32) -> Result<bool, Fault>
         ensures { Loads S.Store self.old self.new result (λ s found. found ≡ is_keyed (keying_of s batch round clerk)) }
     {
@@ -72,8 +72,8 @@ impl<S: Alter> Store<S> {
         Ok(paper.is_some())
     }
 
-    /// Returns the papers of a batch that a clerk keyed in its current round, in order; empty if there is no such
-    /// clerk.
+    /// Returns the papers that the given clerk keyed for a batch in its current round, in order; empty if there is no
+    /// such clerk.
     fn keying_for(&mut self, batch: &Batch, clerk: Option<u32>) -> Result<Vec<KeyedPaper>, Fault>
         requires { IsOpen S.Store self.old }
         ensures { Loads S.Store self.old self.new result (λ s found. map keyed_entry found.items ≡ keying_for s batch.now.number batch.now.round clerk) }
@@ -84,7 +84,7 @@ impl<S: Alter> Store<S> {
         }
     }
 
-    /// Returns the keyings of a batch's current round by its two clerks and by this third one, if there is one.
+    /// Returns the keyings of a batch's current round by its two clerks and by the given third clerk, if there is one.
     pub(crate) fn keyings_with(
         &mut self,
         batch: &Batch,
@@ -115,7 +115,7 @@ impl<S: Alter> Store<S> {
         Ok(keyings)
     }
 
-    /// Returns the verdict on the paper with this number in this batch, if there is one.
+    /// Returns the verdict on the paper with the given number in the given batch, if there is one.
     pub(crate) fn find_verdict(
         &mut self,
         batch: u32,
@@ -126,7 +126,7 @@ impl<S: Alter> Store<S> {
         find_entry::<JudgedPapers, S>(&mut self.conn, &[number(batch), number(paper)])
     }
 
-    /// Returns the verdicts on papers of a batch, ordered by paper.
+    /// Returns the verdicts on a batch's papers, ordered by paper.
     pub(crate) fn list_verdicts(&mut self, batch: u32) -> Result<Vec<JudgedPaper>, Fault>
         ensures { Loads S.Store self.old self.new result (λ s found. map judged_entry found.items ≡ verdicts_of s batch) }
     {
@@ -142,7 +142,7 @@ impl<S: Alter> Store<S> {
         Ok(BatchPapers { keyings, verdicts })
     }
 
-    /// Returns the input of a clerk's command: the batch, its ward with the candidates, its third clerk, and only the
+    /// Returns the input for a clerk's command: the batch, its ward with the candidates, its third clerk, and only the
     /// clerk's own keying.
     pub(crate) fn keying_part(
         &mut self,
@@ -177,7 +177,7 @@ impl<S: Alter> Store<S> {
         })
     }
 
-    /// Returns the input of a command about a doubtful paper: the batch, its ward with the candidates, the keyings of
+    /// Returns the input for a command about a doubtful paper: the batch, its ward with the candidates, the keyings of
     /// its round, and the verdict.
     pub(crate) fn verdict_part(&mut self, batch: u32, paper: u32) -> Result<CommandInput, Fault>
         ensures { Loads S.Store self.old self.new result

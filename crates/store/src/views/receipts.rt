@@ -14,7 +14,7 @@ use tables::finding::{entries_beginning, find_entry};
 use tables::value_conversion::{number, text};
 
 impl<S: Alter> Store<S> {
-    /// Returns the receipt with this actor and this id, if there is one.
+    /// Returns the receipt with the given actor and id, if there is one.
     pub(crate) fn find_receipt(&mut self, actor: u32, id: &str) -> Result<Option<Receipt>, Fault>
         ensures { Loads S.Store self.old self.new result (λ s found. option_map receipt_entry found ≡ receipt_at s actor id.now) }
     {

@@ -1,4 +1,5 @@
-//! The papers of a ward whose batches are all settled. If a batch was keyed by two clerks, they are read row by row.
+//! The papers of a ward whose batches are all settled. If a batch was keyed by two clerks, its papers are read row by
+//! row.
 
 ghost use Rattle.std.specs.Prelude.{◌≡◌, [], map, Some, IfOk, IfErr};
 ghost use Rattle.tables.specs.declared.fault.Fault.{Fault};
@@ -25,7 +26,7 @@ pub(crate) trait Start {
     ghost use Rattle.register.specs.declared.polls.Judgement.{Judgement};
     ghost use Rattle.register.specs.Offices.{JudgedEntry};
 
-    // Which judgements may have been counted before.
+    // The judgements that may have been counted before.
     ghost were_counted: { List Judgement → Type 0 };
 
     // The columns of the papers.
@@ -91,8 +92,8 @@ fn add_each<P: KeepsPapers>(
 }
 
 impl<S: Alter> Store<S> {
-    /// Adds the papers of a batch to the ballots, row by row, as they were keyed in its current round by the
-    /// lower-numbered of its two clerks.
+    /// Adds the papers of a batch to the ballots, row by row, as keyed in its current round by the lower-numbered of
+    /// its two clerks.
     fn walk_papers<P: KeepsPapers + Drop, B: Start>(
         &mut self,
         ballots: Ballots<P>,
@@ -125,8 +126,8 @@ impl<S: Alter> Store<S> {
         Ok(counted.ballots)
     }
 
-    /// Adds the papers of a batch that has a third clerk, with these verdicts: the papers of the first keying that
-    /// equals another one.
+    /// Adds the papers of a batch that has a third clerk, with the given verdicts: the papers of the first keying that
+    /// equals another.
     fn add_agreed<P: KeepsPapers + Drop>(
         &mut self,
         ballots: Ballots<P>,
@@ -145,7 +146,7 @@ impl<S: Alter> Store<S> {
         Ok(counted)
     }
 
-    /// Adds the papers of a settled batch with these verdicts.
+    /// Adds the papers of a settled batch with the given verdicts.
     fn add_batch<P: KeepsPapers + Drop>(
         &mut self,
         ballots: Ballots<P>,
@@ -169,7 +170,7 @@ impl<S: Alter> Store<S> {
         }
     }
 
-    /// Returns the ballots of batches that are all settled, added to `kept`, an empty collection.
+    /// Returns the ballots of the given batches, all of them settled, added to `kept`, an empty collection.
     pub(crate) fn settled_ballots<P: KeepsPapers + Drop>(
         &mut self,
         kept: P,

@@ -17,10 +17,10 @@ use sqlite::Alter;
 use tables::Fault;
 
 impl<S: Alter> Store<S> {
-    /// Returns the ward with this number, if there is one, with everything that its declaration needs. The count is
-    /// included if the ward is in count; once a stage is done, it is read from the tabulation, and no papers are read.
-    /// Changes nothing, and doesn't add to the states that a stop may leave behind. Returns `Memory` or `Store` if a
-    /// row can't be read.
+    /// Returns the ward with the given number, if there is one, with everything that its declaration needs. The count
+    /// is included if the ward is in count; once a stage has been done, it is read from the tabulation, and no papers
+    /// are read. Changes nothing, and doesn't add to the states that a stop may leave behind. Returns `Memory` or
+    /// `Store` if a row can't be read.
     pub fn load_counted(&mut self, ward: u32) -> Result<Option<CountedWard>, Fault>
         ensures { Loads S.Store self.old self.new result (λ s found. IsCountedInFor (option_map (election_of s) (ward_at s ward)) found) }
     {
@@ -38,8 +38,8 @@ impl<S: Alter> Store<S> {
         Ok(counted)
     }
 
-    /// Returns how many papers of a ward in count with these columns are rejected, by code. The papers are read row by
-    /// row and aren't kept in memory.
+    /// Returns how many papers are rejected, by code, in a ward in count with the given columns. The papers are read
+    /// row by row and aren't kept in memory.
     fn rejected_of(&mut self, ward: u32, columns: Columns) -> Result<[u32; REJECTIONS], Fault>
         ensures { Loads S.Store self.old self.new result (λ s rejected. IsInCount s ward → rejected ≡ (ballots_in columns (piles_of s ward)).rejected) }
     {
@@ -48,7 +48,7 @@ impl<S: Alter> Store<S> {
     }
 
     /// Returns the count of a ward in count that has a stage, from the tabulation alone; and how many of its papers are
-    /// rejected. `None` if the tabulation is not that of any count; in an office it always is.
+    /// rejected. Returns `None` if no count has this tabulation, which never happens in an office.
     fn resume_sheet(&mut self, contest: CountedWard) -> Result<Option<WardSheet>, Fault>
         ensures { Loads S.Store self.old self.new result
             (λ s found. WasFound s contest → is_in_count_of (election_in s contest) ≡ true → (contest.ward.done ≡ 0 → ⊥) → IsSheet (election_in s contest) found) }
@@ -62,8 +62,8 @@ impl<S: Alter> Store<S> {
         }
     }
 
-    /// Returns the data for the sheet of a ward in count. If no stage is done, the papers are read once for both the
-    /// count and the rejected papers.
+    /// Returns the data for the sheet of a ward in count. If no stage has been done, the papers are read once for both
+    /// the count and the rejected papers.
     fn sheet_in_count(&mut self, contest: CountedWard) -> Result<Option<WardSheet>, Fault>
         ensures { Loads S.Store self.old self.new result
             (λ s found. WasFound s contest → is_in_count_of (election_in s contest) ≡ true → IsSheet (election_in s contest) found) }
@@ -75,7 +75,7 @@ impl<S: Alter> Store<S> {
         }
     }
 
-    /// Returns the data for the stage sheet of the ward with this number, if there is one: the result of
+    /// Returns the data for the stage sheet of the ward with the given number, if there is one: the result of
     /// `load_counted`, and how many of the ward's papers are rejected, counted from the papers. Changes nothing, and
     /// doesn't add to the states that a stop may leave behind. Returns `Memory` or `Store` if a row can't be read.
     pub fn load_sheet(&mut self, ward: u32) -> Result<Option<WardSheet>, Fault>

@@ -28,15 +28,15 @@ impl<S: Alter> Store<S> {
         entries_beginning::<PlacedBundles, S>(self.alloc, &mut self.conn, &[number(ward)])
     }
 
-    /// Returns the figures of the stages of a ward, ordered by stage and candidate.
+    /// Returns the figures for a ward's stages, ordered by stage and candidate.
     fn list_figures(&mut self, ward: u32) -> Result<Vec<StageFigure>, Fault>
         ensures { Loads S.Store self.old self.new result (λ s found. map figure_entry found.items ≡ figures_at s ward) }
     {
         entries_beginning::<StageFigures, S>(self.alloc, &mut self.conn, &[number(ward)])
     }
 
-    /// Returns the stored data of the count of a ward that has a stage. `None` if the tabulation is not that of any
-    /// count; in an office it always is.
+    /// Returns the stored data of the count of a ward that has a stage. Returns `None` if no count has this tabulation,
+    /// which never happens in an office.
     fn read_stored_count(&mut self, contest: &CountedWard) -> Result<Option<StoredCount>, Fault>
         ensures { Loads S.Store self.old self.new result
             (λ s found. WasFound s contest.now → has_stages (election_in s contest.now) ≡ true → IsStoredCount (election_in s contest.now) found) }
@@ -69,9 +69,9 @@ impl<S: Alter> Store<S> {
         }
     }
 
-    /// Returns the stored count of the ward with this number, from its tabulation and its lots; no papers are read.
-    /// `None` unless the ward exists, is contested and has a stage done. Changes nothing, and doesn't add to the states
-    /// that a stop may leave behind. Returns `Memory` or `Store` if a row can't be read.
+    /// Returns the stored count of the ward with the given number, from its tabulation and its lots; no papers are
+    /// read. Returns `None` unless the ward exists, is contested and has a stage done. Changes nothing, and doesn't add
+    /// to the states that a stop may leave behind. Returns `Memory` or `Store` if a row can't be read.
     pub fn load_book(&mut self, ward: u32) -> Result<Option<Count>, Fault>
         ensures { Loads S.Store self.old self.new result (λ s found. IsCountIfBegunFor (option_map (election_of s) (ward_at s ward)) found) }
     {

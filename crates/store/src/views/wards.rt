@@ -14,7 +14,7 @@ use tables::finding::{entries_beginning, find_entry};
 use tables::value_conversion::number;
 
 impl<S: Alter> Store<S> {
-    /// Returns the ward with this number, if there is one.
+    /// Returns the ward with the given number, if there is one.
     pub(crate) fn find_ward(&mut self, ward: u32) -> Result<Option<Ward>, Fault>
         ensures { Loads S.Store self.old self.new result (λ s found. option_map ward_entry found ≡ ward_at s ward) }
     {
@@ -28,7 +28,7 @@ impl<S: Alter> Store<S> {
         entries_beginning::<Wards, S>(self.alloc, &mut self.conn, &[])
     }
 
-    /// Returns the input of a command that needs a ward.
+    /// Returns the input for a command that needs a ward.
     pub(crate) fn ward_part(&mut self, ward: u32) -> Result<CommandInput, Fault>
         ensures { Loads S.Store self.old self.new result (λ s part. input_entries part ≡ record empty_input { ward = ward_at s ward }) }
     {

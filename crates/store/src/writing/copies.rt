@@ -24,7 +24,7 @@ use std::alloc::Global;
 use tables::Fault;
 use tables::writing::add_both;
 
-/// Creates all tables in an empty database, and inserts these rows.
+/// Creates all tables in an empty database, and inserts the given rows.
 pub(crate) fn write_whole_office<S: Alter>(
     alloc: Global,
     tx: &mut Transaction<'_, S>,

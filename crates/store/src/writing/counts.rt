@@ -12,8 +12,8 @@ use std::alloc::Global;
 use tables::Fault;
 use tables::writing::{add_both, replace_entries};
 
-/// Adds to the tabulation: replaces the rows of bundles that have moved with the new rows of the same keys, and inserts
-/// the rows of new bundles and figures.
+/// Adds to the tabulation: replaces the rows of bundles that have moved with the new rows that have the same keys, and
+/// inserts the rows of new bundles and figures.
 pub(crate) fn write_addition<S: Alter>(
     alloc: Global,
     tx: &mut Transaction<'_, S>,

@@ -28,7 +28,7 @@ fn create_last_three<S: Alter>(tx: &mut Transaction<'_, S>) -> Result<(), Fault>
     create_table(tx, Table::Third)
 }
 
-/// Creates the tables that an office of this form lacks, all empty.
+/// Creates the tables that an office of the given form lacks, all empty.
 fn create_missing<S: Alter>(tx: &mut Transaction<'_, S>, form: OlderForm) -> Result<(), Fault>
     ensures { Alters S.Store tx.old.conn tx.new.conn result (SeesOlder form) (λ s. Sees (older_tables form s)) }
 {

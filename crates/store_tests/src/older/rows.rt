@@ -1,6 +1,6 @@
-//! The office of an earlier program as text: the statements that create its tables and its rows.
+//! An earlier program's office as text: the statements that create its tables and its rows.
 
-/// The tables of such an office, as they are in its file: of the first version, before counts had tables.
+/// The tables of such an office, as they appear in its file: those of the first version, before counts had tables.
 pub const OLDER_TABLES: &str =
     "# CREATE TABLE office (one INT NOT NULL PRIMARY KEY, version INT NOT NULL) STRICT
 # CREATE TABLE ward (ward INT NOT NULL PRIMARY KEY CHECK (ward BETWEEN 1 AND 99), seats INT NOT NULL CHECK (seats BETWEEN 1 AND 15), phase INT NOT NULL, done INT NOT NULL, name TEXT NOT NULL) STRICT
@@ -12,9 +12,9 @@ pub const OLDER_TABLES: &str =
 # CREATE TABLE receipt (actor INT NOT NULL CHECK (actor BETWEEN 0 AND 999), id TEXT NOT NULL, subject TEXT NOT NULL, reply TEXT NOT NULL, PRIMARY KEY (actor, id)) STRICT
 ";
 
-/// Its rows, written by that program. There are wards in each phase. There are batches keyed by one clerk, by both with equal
-/// papers, by both with different papers, and in a second round. There are doubtful papers, verdicts, counts in progress with
-/// their lots, and receipts.
+/// Its rows, written by that program. There are wards in each phase. There are batches keyed by one clerk, by both
+/// clerks with equal papers, by both with different papers, and in a second round. There are doubtful papers, verdicts,
+/// counts in progress with their lots, and receipts.
 pub const OLDER_ROWS: &str = "# INSERT INTO office VALUES (1, 1)
 # INSERT INTO ward VALUES (1, 2, 1, 0, 'Hillside')
 # INSERT INTO ward VALUES (2, 1, 2, 0, 'Market')
@@ -327,7 +327,8 @@ pub const OLDER_ROWS: &str = "# INSERT INTO office VALUES (1, 1)
 # INSERT INTO receipt VALUES (11, 'k6', 'key 91 1', 'batch 91 round 1 keyed')
 ";
 
-/// The rows of ward 7 alone, whose count has two stages: few enough to stop an order at each call on the log.
+/// The rows of ward 7 alone, whose count has two stages. There are few enough of them to stop an order at each call on
+/// the log.
 pub const ROWS_OF_ONE_WARD: &str = "# INSERT INTO office VALUES (1, 1)
 # INSERT INTO ward VALUES (7, 2, 3, 2, 'Harbour')
 # INSERT INTO candidate VALUES (7, 1, 'Ann')

@@ -1,4 +1,4 @@
-//! Orders of a count, each stopped at each call on the store.
+//! Orders in a count, each stopped at each call on the store.
 
 use super::super::begun::{
     AFTER_A_SURPLUS, EQUAL_SURPLUSES, FIRST_OF_FOURTEEN, FOURTEEN, OPENED as WARD,
@@ -16,7 +16,7 @@ const TO_SEAL: &str = "$ seal 7 --id s1
 ward 7 sealed: 0 valid, 0 rejected, quota 1.00000
 ";
 
-/// The first stage of a ward with papers: all of its bundles are added to their table.
+/// The first stage of a ward with papers: all its bundles are added to their table.
 const FIRST_STAGE: &str = "$ advance 7 --id n1
 ward 7 stage 1 first preferences
 ";
@@ -35,17 +35,17 @@ const DECLARATION: &str = "$ declare 7 --id d1
 ward 7 declared: 1, 3
 ";
 
-/// The lot for which the count waits, between two surpluses. The next stage is that of a surplus too.
+/// The lot that the count waits for, between two surpluses. The next stage also transfers a surplus.
 const LOT: &str = "$ lot 7 2 1 --id l2
 lot at ward 7 stage 2: candidate 1
 ";
 
-/// The stage of a surplus that includes papers transferred with an earlier surplus.
+/// The stage that transfers a surplus including papers transferred in an earlier surplus.
 const SECOND_SURPLUS: &str = "$ advance 7 --id n3
 ward 7 stage 3 surplus of 2
 ";
 
-/// States of a count, and the orders that are stopped in each.
+/// States of a count, and the orders stopped in each.
 const COUNTS: [(&[Act], &str); 7] = [
     (&[Act::Typed(POLLING)], TO_SEAL),
     (SEALED, FIRST_STAGE),
@@ -71,7 +71,7 @@ const COUNTS: [(&[Act], &str); 7] = [
     (AFTER_A_SURPLUS, SECOND_SURPLUS),
 ];
 
-/// Stops the orders of some counts, each at each call on one file.
+/// Stops the orders of the given counts, each at each call on one file.
 fn stop_counts<M: TestHost + Drop>(
     rt: &(impl Abort + AllocGlobal),
     counts: &[(&[Act], &str)],

@@ -1,4 +1,4 @@
-//! The JSON of the batches of a ward.
+//! The JSON for a ward's batches.
 
 ghost use Rattle.std.specs.Prelude.{◌≡◌, IfOk, map};
 ghost use Rattle.serde_json.specs.View.{view};

@@ -1,4 +1,4 @@
-//! The JSON of the papers on which the keyings of a batch differ.
+//! The JSON for the papers on which a batch's keyings differ.
 
 ghost use Rattle.std.specs.Prelude.{◌≡◌, IfOk};
 ghost use Rattle.serde_json.specs.View.{view};
@@ -14,7 +14,7 @@ use serde_json::{Value, json};
 use std::alloc::{AllocError, Global};
 use store::Differences;
 
-/// Returns the papers on which the keyings of a batch differ, as a JSON value.
+/// Returns the papers on which a batch's keyings differ, as a JSON value.
 fn differences_value(alloc: Global, batch: u32, found: &Differences) -> Result<Value, AllocError>
     ensures { IfOk result (λ value. view value ≡ differences_data batch (differences_view found.now)) }
 {
@@ -22,7 +22,7 @@ fn differences_value(alloc: Global, batch: u32, found: &Differences) -> Result<V
     json!(in alloc; {"batch": batch, "papers": papers, "round": found.batch.round})
 }
 
-/// Returns the response with these papers, or with the refusal or fault.
+/// Returns the response with the papers that differ, or with the refusal or fault.
 pub(crate) fn answer_differences(
     alloc: Global,
     batch: u32,

@@ -1,4 +1,4 @@
-//! The JSON of the doubtful papers of a ward.
+//! The JSON for a ward's doubtful papers.
 
 ghost use Rattle.std.specs.Prelude.{◌≡◌, IfOk, map, option_map};
 ghost use Rattle.serde_json.specs.View.{view};
@@ -44,7 +44,7 @@ fn verdict_code(verdict: &Option<JudgedPaper>) -> u32
     }
 }
 
-/// Returns the marks of an accepted paper, or no marks for any other.
+/// Returns the marks of an accepted paper, or an empty text for any other.
 fn verdict_marks(verdict: &Option<JudgedPaper>) -> &str
     ensures { result.now ≡ verdict_marks (option_map judged_entry verdict.now) }
 {

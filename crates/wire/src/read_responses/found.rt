@@ -1,4 +1,4 @@
-//! Reads of the console that ask the office more than once. No read changes the state, so they all see the same state.
+//! Reads of the console that ask the office more than once. No read changes the state, so all its parts see the same state.
 
 ghost use Rattle.std.specs.Prelude.{◌≡◌, Err, true};
 ghost use Rattle.sqlite.specs.Held.{state};

@@ -1,4 +1,4 @@
-//! The JSON of the papers of a batch, and how each counts.
+//! The JSON for a batch's papers, and how each counts.
 
 ghost use Rattle.std.specs.Prelude.{◌≡◌, IfOk, map};
 ghost use Rattle.serde_json.specs.View.{view};

@@ -1,4 +1,4 @@
-//! The JSON of receipts.
+//! The JSON for receipts.
 
 ghost use Rattle.std.specs.Prelude.{◌≡◌, IfOk, map};
 ghost use Rattle.serde_json.specs.View.{view};

@@ -1,4 +1,4 @@
-//! The JSON of the next step in a ward.
+//! The JSON for the next step in a ward.
 
 ghost use Rattle.std.specs.Prelude.{◌≡◌, IfOk};
 ghost use Rattle.serde_json.specs.View.{view};
@@ -45,7 +45,7 @@ fn action_word(action: Action) -> &'static str
     }
 }
 
-/// Returns the candidate that a stage is about, or 0.
+/// Returns the candidate that a stage concerns, or 0.
 fn action_candidate(action: Action) -> u8
     ensures { result ≡ action_candidate action }
 {
@@ -75,7 +75,7 @@ fn lot_word(kind: TiedFor) -> &'static str
     }
 }
 
-/// Returns a lot that is due, as a JSON value.
+/// Returns a lot that must be drawn next, as a JSON value.
 fn lot_value(alloc: Global, stage: u8, kind: TiedFor, among: &Columns) -> Result<Value, AllocError>
     ensures { IfOk result (λ value. view value ≡ lot_data stage kind among.now) }
 {
@@ -83,7 +83,7 @@ fn lot_value(alloc: Global, stage: u8, kind: TiedFor, among: &Columns) -> Result
     json!(in alloc; {"decides": lot_word(kind), "stage": stage, "step": "lot", "tied": tied})
 }
 
-/// Returns what is due in a count, as a JSON value.
+/// Returns what comes next in a count, as a JSON value.
 fn due_value(alloc: Global, stage: u32, due: Due) -> Result<Value, AllocError>
     ensures { IfOk result (λ value. view value ≡ due_data stage due) }
 {

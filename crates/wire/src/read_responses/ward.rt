@@ -1,4 +1,4 @@
-//! The JSON of one ward, with its next step and its papers.
+//! The JSON for one ward, with its next step and its papers.
 
 ghost use Rattle.std.specs.Prelude.{◌≡◌, ◌==◌, IfOk, find, map, option_map};
 ghost use Rattle.serde_json.specs.View.{view};
@@ -73,7 +73,7 @@ fn read_value(
     })
 }
 
-/// Returns the ward with this number from a list of wards.
+/// Returns the ward with the given number from a list of wards.
 fn ward_in(wards: &[WardOverview], number: u32) -> Option<&WardOverview>
     ensures { option_map (λ w. ward_view w.now) result ≡ find (λ (w : WardView). w.ward.number == number) (map ward_view wards.now) }
 {
@@ -95,7 +95,7 @@ fn no_such_ward(alloc: Global) -> Response
     }
 }
 
-/// Returns the response with a ward, if it was found, or else that it doesn't exist.
+/// Returns the response with a ward, if it was found; otherwise the response saying that it doesn't exist.
 fn answer_found(alloc: Global, ward: Option<&WardOverview>, found: &WardRead) -> Response
     ensures { IsTold (found_response (ward_read_view found.now) (option_map (λ w. ward_view w.now) ward.entry)) result }
 {

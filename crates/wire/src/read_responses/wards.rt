@@ -1,4 +1,4 @@
-//! The JSON of the wards.
+//! The JSON for the wards.
 
 ghost use Rattle.std.specs.Prelude.{◌≡◌, [], IfOk, map, unwrap_or};
 ghost use Rattle.serde_json.specs.View.{view};

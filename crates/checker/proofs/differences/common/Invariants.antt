@@ -1,4 +1,4 @@
--- The invariant of the loop in `common`: the bytes so far, followed by the common prefix of the remaining ones, are the common prefix.
+-- The invariant of the loop in `common`: the bytes read so far, followed by the common prefix of the remaining ones, are the common prefix.
 use Rattle.std.proofs.Common.{◌≡◌, ◌++◌, take, drop}
 use Rattle.checker.specs.Differences.{common}
 use Rattle.checker.proofs.differences.common.Given as goal

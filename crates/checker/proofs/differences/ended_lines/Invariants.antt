@@ -1,4 +1,4 @@
--- The invariant of the loop in `ended_lines`: the lines so far and those in the remaining bytes add up to all lines.
+-- The invariant of the loop in `ended_lines`: the lines read so far and those in the remaining bytes add up to all lines.
 use Rattle.std.proofs.Common.{◌≡◌, ◌≤◌, ◌+◌, drop}
 use Rattle.checker.specs.Differences.{ended_lines}
 use Rattle.checker.proofs.differences.ended_lines.Given as goal

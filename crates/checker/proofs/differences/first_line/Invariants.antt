@@ -1,4 +1,4 @@
--- The invariant of the loop in `first_line`: the bytes so far belong to the first line.
+-- The invariant of the loop in `first_line`: the bytes read so far belong to the first line.
 use Rattle.std.proofs.Common.{◌≡◌, ◌++◌, take, drop}
 use Rattle.checker.specs.Differences.{first_line}
 use Rattle.checker.proofs.differences.first_line.Given as goal

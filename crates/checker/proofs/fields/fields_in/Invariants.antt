@@ -1,4 +1,4 @@
--- The invariant of the loop in `fields_in`: the remaining bytes, after those so far, determine the line's fields.
+-- The invariant of the loop in `fields_in`: the remaining bytes, after those read so far, determine the line's fields.
 use Rattle.std.proofs.Common.{◌≡◌, [], drop}
 use Rattle.std.specs.Prelude.{fold}
 use Rattle.checker.specs.FieldViews.{fields_told}

@@ -1,4 +1,4 @@
--- The invariant of the loop in `after_signs`: none of the bytes so far is a letter or a digit.
+-- The invariant of the loop in `after_signs`: none of the bytes read so far is a letter or a digit.
 use Rattle.std.proofs.Common.{◌≡◌, drop}
 use Rattle.checker.specs.ForeignComments.{after_signs}
 use Rattle.checker.proofs.foreign_comments.after_signs.Given as goal

@@ -1,4 +1,4 @@
--- The invariant of the loop in `behind_number_sign`: none of the bytes so far is a `#`.
+-- The invariant of the loop in `behind_number_sign`: none of the bytes read so far is a `#`.
 use Rattle.std.proofs.Common.{◌≡◌, drop}
 use Rattle.checker.specs.ForeignComments.{behind_number_sign}
 use Rattle.checker.proofs.foreign_comments.behind_number_sign.Given as goal

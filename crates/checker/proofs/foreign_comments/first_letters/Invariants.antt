@@ -1,4 +1,4 @@
--- The invariant of the loop in `first_letters`: the bytes so far are letters.
+-- The invariant of the loop in `first_letters`: the bytes read so far are letters.
 use Rattle.std.proofs.Common.{◌≡◌, ◌++◌, take, drop}
 use Rattle.checker.specs.ForeignComments.{first_letters}
 use Rattle.checker.proofs.foreign_comments.first_letters.Given as goal

@@ -1,4 +1,4 @@
--- The invariant of the loop in `name_in`: the remaining bytes, after those so far, determine the line's name.
+-- The invariant of the loop in `name_in`: the remaining bytes, after those read so far, determine the line's name.
 use Rattle.std.proofs.Common.{◌≡◌, [], drop}
 use Rattle.std.specs.Prelude.{fold}
 use Rattle.checker.specs.Names.{with_byte}

@@ -1,4 +1,4 @@
--- The invariant of the loop in `ranked_in`: the remaining bytes, after those so far, determine the paper.
+-- The invariant of the loop in `ranked_in`: the remaining bytes, after those read so far, determine the paper.
 use Rattle.std.proofs.Common.{◌≡◌, Ok, drop, map}
 use Rattle.std.specs.Prelude.{fold, string_bytes}
 use Rattle.checker.specs.Fields.{begun, with_byte}

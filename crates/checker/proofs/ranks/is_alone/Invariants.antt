@@ -1,4 +1,4 @@
--- The invariant of the loop in `is_alone`: the bytes so far aren't equals signs.
+-- The invariant of the loop in `is_alone`: the bytes read so far aren't equals signs.
 use Rattle.std.proofs.Common.{◌≡◌, drop}
 use Rattle.std.specs.List.{list_any}
 use Rattle.checker.specs.Tokens.{parts}

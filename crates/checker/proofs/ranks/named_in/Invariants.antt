@@ -1,4 +1,4 @@
--- The invariant of the loop in `named_in`: the remaining words, after those so far, determine the candidates in the line.
+-- The invariant of the loop in `named_in`: the remaining words, after those read so far, determine the candidates in the line.
 use Rattle.std.proofs.Common.{◌≡◌, [], map, drop}
 use Rattle.paper.specs.Ranking.{IsRanking}
 use Rattle.checker.specs.Ranks.{named_from}

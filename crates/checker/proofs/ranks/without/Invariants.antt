@@ -1,4 +1,4 @@
--- The invariant of the loop in `without`: the candidates so far, followed by the remaining ones who haven't withdrawn, are all who haven't.
+-- The invariant of the loop in `without`: the candidates so far, followed by the remaining ones who haven't withdrawn, are all candidates who haven't.
 use Rattle.std.proofs.Common.{◌≡◌, ◌++◌, drop}
 use Rattle.checker.specs.Ranks.{without}
 use Rattle.checker.proofs.ranks.without.Given as goal

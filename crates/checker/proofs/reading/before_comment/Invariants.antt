@@ -1,4 +1,4 @@
--- The invariant of the loop in `before_comment`: the result is the bytes so far, followed by whatever precedes a `#` in the remaining ones.
+-- The invariant of the loop in `before_comment`: the result is the bytes read so far, followed by whatever precedes a `#` in the remaining ones.
 use Rattle.std.proofs.Common.{◌≡◌, ◌++◌, take, drop}
 use Rattle.checker.specs.Reading.{before_comment}
 use Rattle.checker.proofs.reading.before_comment.Given as goal

@@ -1,4 +1,4 @@
--- The invariant of the loop in `read_lines`: the remaining lines, after those so far, determine the content of all of them.
+-- The invariant of the loop in `read_lines`: the remaining lines, after those read so far, determine the content of all of them.
 use Rattle.std.proofs.Common.{◌≡◌, map, drop}
 use Rattle.checker.specs.Reading.{nothing_told, read_from}
 use Rattle.checker.specs.Values.{reading_of}

@@ -1,4 +1,4 @@
--- The invariant of the loop in `records_in`: the remaining lines, after those so far, determine the content of all of them.
+-- The invariant of the loop in `records_in`: the remaining lines, after those read so far, determine the content of all of them.
 use Rattle.std.proofs.Common.{◌≡◌, map, drop}
 use Rattle.checker.specs.RecordViews.{records_told, ward_told}
 use Rattle.checker.specs.Records.{nothing_recorded, records_from}

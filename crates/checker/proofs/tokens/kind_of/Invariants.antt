@@ -1,4 +1,4 @@
--- The invariant of the loop in `kind_of`: the bytes so far are blanks.
+-- The invariant of the loop in `kind_of`: the bytes read so far are blanks.
 use Rattle.std.proofs.Common.{◌≡◌, drop}
 use Rattle.checker.specs.Tokens.{kind_of}
 use Rattle.checker.proofs.tokens.kind_of.Given as goal

@@ -1,4 +1,4 @@
--- The invariant of the loop in `make_file`: none of the texts drawn so far is a file of codes.
+-- The invariant of the loop in `make_file`: none of the texts drawn so far is a codes file.
 use Rattle.std.proofs.Common.{◌≡◌}
 use Rattle.codes.proofs.DrawingLemmas.{HasDrawn}
 use Rattle.codes.proofs.making.make_file.Given as goal

@@ -1,4 +1,4 @@
--- The invariant of the loop in `draw_letters`: the letters so far are those that the bytes so far select.
+-- The invariant of the loop in `draw_letters`: the letters so far are those that the bytes read so far select.
 use Rattle.std.proofs.Common.{◌≡◌, ◌*◌, ◌≤◌, length}
 use Rattle.codes.proofs.DrawingLemmas.{IsDrawing}
 use Rattle.codes.proofs.random_letters.draw_letters.Given as goal

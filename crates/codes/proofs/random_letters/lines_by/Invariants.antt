@@ -1,4 +1,4 @@
--- The invariant of the loop in `lines_by`: the lines so far, followed by those for the remaining clerks and letters, are the lines for all of them.
+-- The invariant of the loop in `lines_by`: the lines read so far, followed by those for the remaining clerks and letters, are the lines for all of them.
 use Rattle.std.proofs.Common.{◌≡◌, ◌+◌, ◌-◌, ◌*◌, ◌<◌, ◌++◌, EachIndex, length, slice_index, string_bytes}
 use Rattle.codes.specs.Making.{numbers, text_of}
 use Rattle.codes.proofs.random_letters.lines_by.Given as goal

@@ -1,4 +1,4 @@
--- The invariant of the loop in `entries_of`: reading the remaining lines after those so far has the result of reading all lines.
+-- The invariant of the loop in `entries_of`: reading the remaining lines after those read so far has the same result as reading all the lines.
 use Rattle.std.proofs.Common.{◌≡◌, ◌+◌, map, drop}
 use Rattle.codes.specs.Files.{file_entry, file_from, no_codes}
 use Rattle.codes.proofs.reading.entries_of.Given as goal

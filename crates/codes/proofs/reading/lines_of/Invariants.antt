@@ -1,4 +1,4 @@
--- The invariant of the loop in `lines_of`: the lines so far, followed by those of the remaining bytes, are the lines of the text.
+-- The invariant of the loop in `lines_of`: the lines read so far, followed by those of the remaining bytes, are the lines of the text.
 use Rattle.std.proofs.Common.{◌≡◌, ◌++◌, [], map, drop}
 use Rattle.codes.specs.Files.{lines_from}
 use Rattle.codes.proofs.reading.lines_of.Given as goal

@@ -3,7 +3,7 @@ use Rattle.std.proofs.Common.{◌≡◌, ◌-◌, length}
 use Rattle.connections.specs.Streams.{Delivers, stream_of}
 use Rattle.connections.proofs.client.deliver.Given as goal
 
--- the stream accepted the response up to this position
+-- the stream has accepted the response up to the given position
 abbrev pub invariant-loop-answer : goal.invariant-loop-answer
 invariant-loop-answer g l = record {
   same : l.answer.bytes.items ≡ l.fn.answer.bytes.items;

@@ -2,7 +2,7 @@
 use Rattle.std.proofs.Common.{◌≡◌, ◌≤◌}
 use Rattle.connections.proofs.client.drop_bytes.Given as goal
 
--- the stream accepted nothing, and no call of it failed or was idle
+-- the stream accepted nothing, and no call on it failed or was idle
 abbrev pub invariant-loop-unread_body_bytes : goal.invariant-loop-unread_body_bytes
 invariant-loop-unread_body_bytes g l = record {
   untold : g.L.Stream.taken l.stream ≡ g.L.Stream.taken l.fn.stream;

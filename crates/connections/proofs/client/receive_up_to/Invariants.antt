@@ -4,7 +4,7 @@ use Rattle.connections.specs.Clients.{chunk}
 use Rattle.connections.specs.Streams.{Receives, stream_of}
 use Rattle.connections.proofs.client.receive_up_to.Given as goal
 
--- exactly what the stream has yielded so far follows what was received before, and it isn't too much
+-- what was received before is followed by exactly what the stream has yielded so far, and there isn't too much of it
 abbrev pub invariant-loop-stream : goal.invariant-loop-stream
 invariant-loop-stream g l = record {
   receives : Receives (stream_of g.L.Stream.held g.L.Stream.taken g.L.Stream.failed) l.fn.stream l.stream l.fn.got.items l.got.items;

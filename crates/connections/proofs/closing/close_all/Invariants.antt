@@ -3,7 +3,7 @@ use Rattle.std.proofs.Common.{length}
 use Rattle.connections.specs.Closing.{AreClosedByRule, IsClosed}
 use Rattle.connections.proofs.closing.close_all.Given as goal
 
--- some connections were closed so far
+-- connections have been closed so far
 abbrev pub invariant-loop-network : goal.invariant-loop-network
 invariant-loop-network g l = AreClosedByRule IsClosed (g.D.Network.known l.fn.network) (g.D.Network.known l.network) l.fn.table l.table
 

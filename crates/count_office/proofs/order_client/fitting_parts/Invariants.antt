@@ -1,4 +1,4 @@
--- The loop invariant of `fitting_parts`: the parts so far can be encoded.
+-- The loop invariant of `fitting_parts`: the parts made so far can be encoded.
 use Rattle.std.specs.List.{AllByRecursion}
 use Rattle.order_protocol.specs.Messages.{PieceFits, message_part_entries}
 use Rattle.count_office.proofs.order_client.fitting_parts.Given as goal

@@ -1,4 +1,4 @@
--- The loop invariant of `whole_lines`: the lines so far are among the bytes.
+-- The loop invariant of `whole_lines`: the lines found so far are among the bytes.
 use Rattle.std.specs.Prelude.{◌≤◌, length}
 use Rattle.count_office.proofs.order_client.whole_lines.Given as goal
 

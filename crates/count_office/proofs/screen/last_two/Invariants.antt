@@ -1,4 +1,4 @@
--- The loop invariant of `last_two`: the last two bytes of all are the last two of what is left.
+-- The loop invariant of `last_two`: the last two of all bytes are the last two after the remaining ones.
 use Rattle.std.proofs.Common.{◌≡◌, drop}
 use Rattle.count_office.specs.Screens.{last_two}
 use Rattle.count_office.proofs.screen.last_two.Given as goal

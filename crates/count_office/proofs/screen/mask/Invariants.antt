@@ -1,4 +1,4 @@
--- The loop invariant of `mask`: the bytes so far are masked, and those that are left follow them.
+-- The loop invariant of `mask`: the bytes read so far are masked, and the remaining ones follow them.
 use Rattle.std.proofs.Common.{◌≡◌, ◌++◌, length, take, drop}
 use Rattle.count_office.specs.Screens.{masked}
 use Rattle.count_office.proofs.screen.mask.Given as goal

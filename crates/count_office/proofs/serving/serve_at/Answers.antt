@@ -20,8 +20,8 @@ returns-in-Ok g c =
     (g.H.Sockets.Network.known found.field-0.network) (g.H.Sockets.Network.known through.new.network) c.args.office.now through.new.office (Ok c.in-Ok.field-0)
     found.ensures.same found.ensures.known c.close.ensures.known c.close.ensures.others found.ensures.file (c.public_of.ensures ∙ c.in_ok-texts.ensures) c.in-Ok.ensures
 
-pub returns-in-Err : goal.returns-in-Err
-returns-in-Err g c =
+pub returns : goal.returns
+returns g c =
     let line = stream_of g.H.Sockets.Stream.Stream.held g.H.Sockets.Stream.Stream.taken g.H.Sockets.Stream.Stream.failed in
     let known = g.H.Host.known in
     let found = c.in_ok-network in

@@ -1,4 +1,4 @@
--- The invariant of the loop in `count_stages`: the stages so far were counted, and their pages were printed.
+-- The invariant of the loop in `count_stages`: the stages so far have been counted, and their pages have been printed.
 use Rattle.std.proofs.Common.{◌≡◌, ℕ, Bool, map}
 use Rattle.clap.specs.Words.{Text}
 use Rattle.sqlite.specs.State.{HasCleanDisk}

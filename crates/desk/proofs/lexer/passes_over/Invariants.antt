@@ -1,4 +1,4 @@
--- The invariant of the loop in `passes_over`: all bytes so far are whitespace.
+-- The invariant of the loop in `passes_over`: all bytes read so far are whitespace.
 use Rattle.std.proofs.Common.{◌≡◌, drop}
 use Rattle.desk.specs.Scripts.{passes_over}
 use Rattle.desk.proofs.lexer.passes_over.Given as goal

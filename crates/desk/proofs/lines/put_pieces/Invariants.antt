@@ -1,4 +1,4 @@
--- The invariant of the loop in `put_pieces`: the pieces so far were written.
+-- The invariant of the loop in `put_pieces`: the pieces so far have been written.
 use Rattle.std.proofs.Common.{take, Ok}
 use Rattle.std.specs.List.{flat_map}
 use Rattle.streams.specs.declared.streams.Broken.{Broken}

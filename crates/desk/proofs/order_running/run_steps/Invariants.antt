@@ -1,4 +1,4 @@
--- The invariant of the loop in `run_steps`: the steps so far were done, and their pages were printed.
+-- The invariant of the loop in `run_steps`: the steps so far have been run, and their pages have been printed.
 use Rattle.sqlite.specs.State.{HasCleanDisk}
 use Rattle.sqlite.specs.Held.{state}
 use Rattle.store.specs.StateTables.{KeepsConnection}

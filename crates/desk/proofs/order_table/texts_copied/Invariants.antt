@@ -1,4 +1,4 @@
--- The invariant of the loop in `texts_copied`: the texts so far, followed by the remaining ones, are all texts.
+-- The invariant of the loop in `texts_copied`: the texts so far, followed by the remaining ones, are all the texts.
 use Rattle.std.proofs.Common.{◌≡◌, ◌++◌, drop, map, string_bytes}
 use Rattle.desk.proofs.order_table.texts_copied.Given as goal
 

@@ -1,4 +1,4 @@
--- The invariant of the loop in `clerks_words`: the clerks so far, followed by the remaining ones, are all clerks.
+-- The invariant of the loop in `clerks_words`: the clerks so far, followed by the remaining ones, are all the clerks.
 use Rattle.std.proofs.Common.{◌≡◌, ◌++◌, drop, map, string_bytes}
 use Rattle.std.specs.List.{flat_map}
 use Rattle.store.specs.Overviews.{clerk_view}

@@ -1,4 +1,4 @@
--- The invariant of the loop in `lines_of`: the lines so far, followed by the remaining ones, are all lines.
+-- The invariant of the loop in `lines_of`: the lines read so far, followed by the remaining ones, are all the lines.
 use Rattle.std.proofs.Common.{◌≡◌, ◌++◌, drop, string_bytes}
 use Rattle.std.specs.List.{flat_map}
 use Rattle.desk.specs.Pages.{line}

@@ -1,4 +1,4 @@
--- The invariant of the loop in `lines_of_doubtful`: the lines so far, followed by the remaining ones, are all lines.
+-- The invariant of the loop in `lines_of_doubtful`: the lines read so far, followed by the remaining ones, are all the lines.
 use Rattle.std.proofs.Common.{◌≡◌, ◌++◌, drop, map, string_bytes}
 use Rattle.store.specs.Overviews.{doubtful_view}
 use Rattle.desk.specs.CandidateNames.{names_told}

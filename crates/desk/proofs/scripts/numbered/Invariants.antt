@@ -1,4 +1,4 @@
--- The invariant of the loop in `numbered`: the lines so far, followed by the numbered remaining ones, are the numbered lines of the text.
+-- The invariant of the loop in `numbered`: the lines read so far, followed by the numbered remaining ones, are the numbered lines of the text.
 use Rattle.std.proofs.Common.{◌≡◌, ◌+◌, ◌++◌, map, drop}
 use Rattle.desk.specs.Lexing.{line_entry}
 use Rattle.desk.specs.Scripts.{numbered_from}

@@ -1,4 +1,4 @@
--- The invariant of the loop in `script_steps`: the lines so far are the steps so far.
+-- The invariant of the loop in `script_steps`: the lines read so far mean the steps so far.
 use Rattle.std.proofs.Common.{map, take}
 use Rattle.desk.specs.Lexing.{typed_line_entry}
 use Rattle.desk.specs.Scripts.{AreTurns}

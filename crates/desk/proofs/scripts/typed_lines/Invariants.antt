@@ -1,4 +1,4 @@
--- The invariant of the loop in `typed_lines`: the lines so far, followed by the remaining ones, are all lines.
+-- The invariant of the loop in `typed_lines`: the lines read so far, followed by the remaining ones, are all the lines.
 use Rattle.std.proofs.Common.{◌≡◌, ◌++◌, map, drop}
 use Rattle.desk.specs.Lexing.{line_entry, typed_line_entry}
 use Rattle.desk.specs.Scripts.{typed_line}

@@ -1,5 +1,5 @@
--- The invariant of the loop in `given_out`: the papers counted so far plus those of the remaining batches are all papers, and their number is small enough not to
--- overflow.
+-- The invariant of the loop in `given_out`: the papers counted so far plus those in the remaining batches are all the papers, and their number is small enough not
+-- to overflow.
 use Rattle.std.proofs.Common.{◌≡◌, ◌≤◌, ◌+◌, ◌*◌, ◌^◌, drop, map}
 use Rattle.store.specs.Overviews.{batch_view}
 use Rattle.desk.specs.Seals.{given_out}

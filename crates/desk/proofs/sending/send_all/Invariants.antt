@@ -1,4 +1,4 @@
--- The invariant of the loop in `send_all`: the requests so far were answered, and their pages were printed.
+-- The invariant of the loop in `send_all`: the requests so far have been answered, and their pages have been printed.
 use Rattle.sqlite.specs.State.{HasCleanDisk}
 use Rattle.sqlite.specs.Held.{state}
 use Rattle.store.specs.StateTables.{KeepsConnection}

@@ -1,4 +1,4 @@
--- The invariant of the loop in `all_named`: the candidates so far, followed by the remaining ones, are all candidates.
+-- The invariant of the loop in `all_named`: the candidates so far, followed by the remaining ones, are all the candidates.
 use Rattle.std.proofs.Common.{◌≡◌, ◌++◌, drop, map, string_bytes}
 use Rattle.std.specs.List.{flat_map}
 use Rattle.register.specs.Offices.{candidate_entry}

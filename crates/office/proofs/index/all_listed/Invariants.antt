@@ -1,4 +1,4 @@
--- The invariant of the loop in `all_listed`: the wards so far, followed by the remaining ones, are all wards.
+-- The invariant of the loop in `all_listed`: the wards so far, followed by the remaining ones, are all the wards.
 use Rattle.std.proofs.Common.{◌≡◌, ◌++◌, map, drop}
 use Rattle.sheet.specs.Index.{listed}
 use Rattle.store.specs.Overviews.{ward_view}

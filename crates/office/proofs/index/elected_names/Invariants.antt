@@ -1,4 +1,4 @@
--- The invariant of the loop in `elected_names`: the elected candidates so far, followed by those among the remaining ones, are all elected candidates.
+-- The invariant of the loop in `elected_names`: the elected candidates so far, followed by those among the remaining ones, are all the elected candidates.
 use Rattle.std.proofs.Common.{◌≡◌, ◌++◌, map, drop, filter}
 use Rattle.register.specs.Offices.{candidate_entry}
 use Rattle.sheet.specs.Index.{elected_shown}

@@ -1,4 +1,4 @@
--- The loop invariant of `files_of`: the files so far are the ones that were read.
+-- The loop invariant of `files_of`: the files made so far are the ones that were read.
 use Rattle.std.proofs.Common.{◌≡◌, map, take}
 use Rattle.order_protocol.specs.Messages.{message_part_entries}
 use Rattle.wire.specs.ConsoleOrders.{console_file_entry}

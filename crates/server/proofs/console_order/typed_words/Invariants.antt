@@ -1,4 +1,4 @@
--- The loop invariant of `typed_words`: the words so far are the ones that were read, after DB.
+-- The loop invariant of `typed_words`: the words collected so far are DB and those that were read.
 use Rattle.std.proofs.Common.{◌≡◌, map, string_bytes, take}
 use Rattle.server.specs.ConsoleOrders.{typed_words}
 use Rattle.server.proofs.console_order.typed_words.Given as goal

@@ -1,4 +1,4 @@
--- The loop invariant of `words_of`: the words so far are the ones that were read.
+-- The loop invariant of `words_of`: the words collected so far are the ones that were read.
 use Rattle.std.proofs.Common.{◌≡◌, map, take}
 use Rattle.server.proofs.served_order.words_of.Given as goal
 

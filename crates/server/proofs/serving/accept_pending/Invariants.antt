@@ -7,7 +7,7 @@ use Rattle.server.specs.Servers.{GoesOn, IsUnfailed}
 use Rattle.server.specs.Settings.{ServerSettingsEntry}
 use Rattle.server.proofs.serving.accept_pending.Given as goal
 
--- some connections were accepted so far
+-- connections have been accepted so far
 abbrev pub invariant-loop : goal.invariant-loop
 invariant-loop g l = record {
   goes_on : (settings : ServerSettingsEntry) → GoesOn settings (stream_of g.D.Stream.Stream.held g.D.Stream.Stream.taken g.D.Stream.Stream.failed) []

@@ -8,7 +8,7 @@ use Rattle.server.specs.Reads.{served_office, memory_entry}
 use Rattle.server.specs.Settings.{settings_in}
 use Rattle.server.proofs.serving.serve_rounds.Given as goal
 
--- this many rounds were completed, with one wait in each, and no call failed
+-- the given number of rounds have been completed, with one wait in each, and no call has failed
 abbrev pub invariant-loop-round : goal.invariant-loop-round
 invariant-loop-round g l = record {
   goes_on : ServesFrom (settings_in g.A.ServedFile.whole l.serving.server_settings) (stream_of g.D.Stream.Stream.held g.D.Stream.Stream.taken g.D.Stream.Stream.failed)

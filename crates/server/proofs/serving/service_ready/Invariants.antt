@@ -8,7 +8,7 @@ use Rattle.server.specs.Reads.{served_office, memory_entry}
 use Rattle.server.specs.Settings.{settings_in}
 use Rattle.server.proofs.serving.service_ready.Given as goal
 
--- some connections were serviced so far
+-- connections have been serviced so far
 abbrev pub invariant-loop : goal.invariant-loop
 invariant-loop g l = record {
   goes_on : ServesFrom (settings_in g.A.ServedFile.whole l.server_settings) (stream_of g.D.Stream.Stream.held g.D.Stream.Stream.taken g.D.Stream.Stream.failed)

@@ -1,4 +1,4 @@
--- The loop invariant of `open`: no file so far has the path, so if there is a file at the path, it is among the remaining ones.
+-- The loop invariant of `open`: none of the files examined so far has the path, so a file with that path, if any, is among the remaining ones.
 use Rattle.std.proofs.Common.{◌≡◌, drop}
 use Rattle.order_protocol.specs.Messages.{message_part_entries}
 use Rattle.server.specs.ServedOrders.{attached_at}

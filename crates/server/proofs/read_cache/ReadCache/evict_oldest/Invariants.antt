@@ -1,4 +1,4 @@
--- The loop invariant of `evict_oldest`: some responses were removed, oldest first.
+-- The loop invariant of `evict_oldest`: responses have been removed, oldest first.
 use Rattle.std.proofs.Common.{◌≡◌, ◌++◌, List}
 use Rattle.server.specs.Reads.{ReadEntry, reads_in}
 use Rattle.server.proofs.read_cache.ReadCache.evict_oldest.Given as goal

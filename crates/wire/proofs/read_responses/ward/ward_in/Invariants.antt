@@ -1,4 +1,4 @@
--- The loop invariant of `ward_in`: none of the wards so far has this number.
+-- The loop invariant of `ward_in`: none of the wards examined so far has the given number.
 use Rattle.std.proofs.Common.{◌≡◌, ◌==◌, drop, map}
 use Rattle.std.specs.Prelude.{find}
 use Rattle.store.specs.Overviews.{WardView, ward_view}
