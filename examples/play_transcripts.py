@@ -26,7 +26,7 @@ TOWN, COPY, FILE = "town.db", "copy.db", "FILE"
 SECONDS = 60
 
 sys.path.insert(0, str(HERE.parent / "tools"))
-from office_tools.tries import older_office  # noqa: E402
+from office_tools.tries.files import try_older_office  # noqa: E402
 from transcript import read  # noqa: E402
 
 
@@ -198,6 +198,7 @@ def play_one(folder, asked):
         (folder / FILE).unlink(missing_ok=True)
         if asked.file is not None:
             (folder / FILE).write_bytes(asked.file)
+            (folder / FILE).chmod(0o600)
         compare(asked, give(folder, asked.words()))
 
 
@@ -242,7 +243,7 @@ def play_act(folder, act, all_asked):
             with blamed(asked):
                 damage(folder, asked, act.removeprefix("damage: ").split(" "))
     elif act == "older office" and not all_asked:
-        older_office.main(folder / TOWN)
+        try_older_office(folder / TOWN)
     else:
         raise Wrong(f"no act: {act}")
 

@@ -1,16 +1,16 @@
 """Small elections: one, order by order, for tools that make its orders fail; one ward, as others begin it; and an evening with codes."""
+import contextlib
 import os
+import re
 import shlex
+import sqlite3
 from dataclasses import dataclass
 
-from office_tools.office import NO_OFFICE, SCRIPT, TOWN, Office, ended
-from office_tools.tries import older_office
-from office_tools.web import request
+from office_tools.office import NO_OFFICE, ROOT, SCRIPT, TOWN, Office, ended, request
 
 FILE, COPY, COPY_LOG = "rows.csv", "copy.db", "copy.db-wal"
 # What an order prints when it is given again after its result was found, if it has no receipt.
 MADE = {"init": (3, "", NO_OFFICE), "migrate": (0, "office is at version 2\n", "")}
-
 
 def ward_orders(*batches, candidates=("Ann", "Bob", "Cy"), seats=2, ward=7, name="Harbour"):
     """Returns the orders of a ward up to its batches, each of a number, a size and two clerks."""
@@ -18,22 +18,17 @@ def ward_orders(*batches, candidates=("Ann", "Bob", "Cy"), seats=2, ward=7, name
     given_out = [f"batch {batch} {ward} {size} {first} {second} --id b{batch}" for batch, size, first, second in batches]
     return [f"ward {ward} {seats} {shlex.quote(name)} --id w{ward}", *nominated, f"close {ward} --id n{ward}", *given_out]
 
-
 def marks_of(order, columns):
     """Returns the marks of a paper on which the candidates of these columns are ranked in this order."""
     return ",".join(str(order.index(column) + 1) if column in order else "" for column in range(columns))
 
-
 def keyed(batch, papers, clerks=(4, 9)):
-    """Returns the orders by which clerks key the same papers in a batch's first round."""
     return [f"key {clerk} {batch} 1 {' '.join(papers)} --id k{batch}" for clerk in clerks]
-
 
 def keying(papers, columns):
     """Returns the lines of a keying's import file. The marks of a doubtful paper are D."""
     records = [f"{number},{'D' + ',' * (len(columns) - 1) if marks == 'D' else marks}" for number, marks in enumerate(papers, 1)]
     return [",".join(["paper", *map(str, columns)]), *records]
-
 
 @dataclass
 class Order:
@@ -49,7 +44,6 @@ class Order:
         return self.words[0] if self.sends else " ".join(self.words)
 
     def put_files(self, office):
-        """Writes the files that the order names."""
         for name in self.words:
             if self.lines and name.endswith((".csv", ".txt")):
                 office.write(name, self.lines)
@@ -74,7 +68,6 @@ class Order:
         """Returns how many of its replies an output has."""
         return int(out.startswith("HTTP/1.1 200 ")) if self.sends else out.count("\n")
 
-
 def election(copies=1):
     """Returns the orders of an election of two seats, with nine valid papers, or so many copies of them, and a doubtful one.
 
@@ -98,7 +91,6 @@ def election(copies=1):
     files = {2: ["ward,candidate,name", *(f"7,{c},Candidate {c}" for c in range(1, 5))], 7: right, 8: wrong, 9: batches, 12: right}
     return [Order(line.split(), files.get(number)) for number, line in enumerate(lines)]
 
-
 ELECTION = election()
 END = len(ELECTION)
 # A script of some of the orders, after a line that is passed over; it is sent to the office before the first of them.
@@ -108,15 +100,14 @@ COPYING = Order(["copy", COPY])
 # Orders that change nothing, each with the number of the order before which it is tried.
 READS = [(number, Order(line.split())) for number, line in (
     (END, "status 7"), (END, "sheet 7"), (END, "result 7"), (18, "advance 7 --id a3"), (18, "next 7"), (0, "status 7"), (END, "wards"),
-    (END, "receipts"), (END, "journal"), (14, "batches 7"), (14, "doubtful 7"), (9, "differences 12"), (14, "papers 12"))]
+    (END, "receipts"), (END, "journal"), (14, "batches 7"), (14, "doubtful 7"), (9, "differences 12"), (14, "papers 12"),
+    (14, "forms covers 7"))]
 # The same of requests; the keying is that of the order 8.
 KEYING = '{"id":"k1","round":1,"papers":["1,2,,",%s"D"]}' % "".join(f'"{line.split(",", 1)[1]}",' for line in ELECTION[8].lines[2:-1])
 REQUESTS = [(number, Order([f"{'POST' if body else 'GET'} {target}"], sends=request(target, body=body))) for number, target, body in (
     (8, "/clerks/9/work", ""), (8, "/clerks/9/batches/12/keying", KEYING), (END, "/wards/7/sheet", ""), (END, "/wards/7/result", ""))]
 
-
 def offices(folder, orders=ELECTION):
-    """Returns the offices before each order of the election, and after the last."""
     found = [Office(folder / "office-0")]
     for number, order in enumerate(orders, 1):
         office = found[-1].copied(folder / f"office-{number}")
@@ -125,12 +116,19 @@ def offices(folder, orders=ELECTION):
         found.append(office)
     return found
 
+def make_older(path):
+    """Makes the file of an office of an earlier program, with all rows in the file itself: the log goes as the connection is closed."""
+    text = (ROOT / "crates/store_tests/src/older/rows.rt").read_text(encoding="utf-8")
+    parts = [re.search(rf'pub const {name}: &str =\s+"((?:[^"\\]|\\.)*)";', text)[1] for name in ("OLDER_TABLES", "OLDER_ROWS")]
+    statements = [line.removeprefix("# ") for line in "".join(parts).replace('\\"', '"').splitlines()]
+    with contextlib.closing(sqlite3.connect(path)) as database:
+        database.execute("PRAGMA journal_mode = wal")
+        database.executescript("BEGIN;\n" + ";\n".join(statements) + ";\nCOMMIT;\n")
 
 def earlier_office(folder):
     office = Office(folder)
-    older_office.main(office.folder / TOWN)
+    make_older(office.folder / TOWN)
     return office
-
 
 TITLE = "Election of 6 May 2027, Harbour Council"
 CODES = {4: "kf7m-2wxt-h4dn", 9: "w3hd-4psn-7kfr"}
@@ -140,9 +138,7 @@ LARGE = [*(f"Candidate {c}" for c in range(1, 29)), "<img src=x onerror=document
 # Names that look like markup, change the direction of writing, or are as long as they may be.
 HOSTILE = [*LARGE[-2:], "A" * 120, "\u05d0" * 60, "Maximiliane " * 9 + "Oberhuber-F.", "=1+1", "\u0627\u062d\u0645\u062f, 2 Bob", "\u0085x"]
 
-
 def evening_office(folder, codes=None):
-    """Returns an office of two wards and four batches for clerks 4 and 9, with a file of codes."""
     harbour = ward_orders((12, 50, 4, 9), (14, 1, 4, 9), (15, 1, 4, 9), candidates=SMALL)
     office = Office(folder).begin(harbour + ward_orders((13, 3, 4, 9), candidates=LARGE, ward=8, name="Old Town <b>&"))
     office.write_codes(codes or CODES)

@@ -1,11 +1,15 @@
-"""An office in a folder: the program that runs on its file, serves it, and is killed."""
+"""An office in a folder: the program that runs on its file, serves it, and is killed; requests, crowds of clients, and a proxy."""
+import asyncio
+import base64
 import collections
 import contextlib
 import functools
 import itertools
 import os
+import re
 import shutil
 import socket
+import socketserver
 import sqlite3
 import subprocess
 import tempfile
@@ -13,7 +17,127 @@ import threading
 import time
 from pathlib import Path
 
-from office_tools.web import HERE, answer
+HERE = "127.0.0.1"
+PATIENCE = 60
+PAGE = b"HTTP/1.1 200 OK\r\nContent-Type: text/html\r\nConnection: close\r\n\r\n<!DOCTYPE html><title>elsewhere</title><body>"
+
+def request(target, *headers, body="", method=""):
+    """Returns a request; with a body it is a POST, unless another method is named."""
+    lines = [f"{method or ('POST' if body else 'GET')} {target} HTTP/1.1", *headers]
+    if body:
+        lines.append(f"Content-Length: {len(body.encode())}")
+    return "\r\n".join([*lines, "", body]).encode()
+
+def basic(name, code):
+    return "Basic " + base64.b64encode(f"{name}:{code}".encode()).decode()
+
+def received(line):
+    """Reads until the connection ends, and closes it."""
+    text = b""
+    with line, contextlib.suppress(ConnectionResetError):
+        while piece := line.recv(65536):
+            text += piece
+    return text
+
+def answer(line, sends, shut=False):
+    """Sends bytes, closes the sending side if `shut`, and returns what comes back until the connection ends."""
+    with contextlib.suppress(OSError):
+        line.sendall(sends)
+        if shut:
+            line.shutdown(socket.SHUT_WR)
+    return received(line)
+
+def ask(port, sends, host=HERE, seconds=PATIENCE, **how):
+    return answer(socket.create_connection((host, port), timeout=seconds), sends, **how)
+
+def status(text):
+    return int(text[9:12]) if re.match(rb"HTTP/1\.1 \d{3} ", text) else 0
+
+def is_whole(text):
+    """Returns whether this is the whole of an answer with status 200."""
+    found = re.fullmatch(rb"HTTP/1\.1 200 OK\r\n.*?Content-Length: (\d+)\r\n.*?\r\n\r\n(.*)", text, re.DOTALL)
+    return bool(found) and len(found[2]) == int(found[1])
+
+class Crowd(threading.Thread):
+    """Clients who say nothing, or what they are given to send, during a `with`. One that is disconnected, or goes, connects again."""
+
+    def __init__(self, port, count, sends=b"", *, host=HERE, goes=False, reads=True):
+        super().__init__(daemon=True)
+        self.address, self.count, self.came, self.is_over = (host, port), count, 0, False
+        self.sends, self.goes, self.reads = sends, goes, reads
+
+    async def connect(self):
+        """Connects, and stays until it is disconnected."""
+        loop = asyncio.get_running_loop()
+        with socket.socket(socket.AF_INET6 if ":" in self.address[0] else socket.AF_INET) as line, contextlib.suppress(OSError):
+            if not self.reads:
+                # What nobody reads fills these sockets soon.
+                line.setsockopt(socket.IPPROTO_TCP, socket.TCP_MAXSEG, 536)
+                line.setsockopt(socket.SOL_SOCKET, socket.SO_RCVBUF, 1)
+            line.setblocking(False)
+            await loop.sock_connect(line, self.address)
+            await loop.sock_sendall(line, self.sends)
+            self.came += 1
+            while not self.goes and (not self.reads or await loop.sock_recv(line, 65536)):
+                await asyncio.sleep(0 if self.reads else PATIENCE)
+
+    async def stay(self, number):
+        # Of those that go, five hundred come a second: more would ask than the office can answer.
+        pause = self.count / 500 if self.goes else 0.01
+        await asyncio.sleep(number * pause / self.count)
+        while True:
+            await asyncio.gather(self.connect(), asyncio.sleep(pause))
+
+    async def all(self):
+        clients = [asyncio.create_task(self.stay(number)) for number in range(self.count)]
+        while clients and not self.is_over:
+            await asyncio.sleep(0.05)
+
+    def run(self):
+        asyncio.run(self.all())
+
+    def __enter__(self):
+        self.start()
+        return self
+
+    def __exit__(self, kind, *_):
+        self.is_over = True
+        self.join()
+        assert kind or self.came >= self.count, f"of {self.count} clients {self.came} came"
+
+class Carried(socketserver.StreamRequestHandler):
+    """A request that comes to a proxy, which carries it to the office, and the answer back."""
+
+    def handle(self):
+        proxy, lines = self.server, list(itertools.takewhile(bytes.strip, iter(self.rfile.readline, None)))
+        if not lines:
+            return
+        length = re.search(rb"(?i)\ncontent-length: *(\d+)", b"".join(lines))
+        sends = b"".join([*lines, b"\r\n", self.rfile.read(int(length[1]) if length else 0)])
+        proxy.asked.append(lines[0].decode().rstrip())
+        back = ask(proxy.office, sends) if proxy.office and not sends.startswith(b"GET /page ") else PAGE
+        if sends.startswith(b"POST") and proxy.cuts:
+            proxy.cuts -= 1
+        else:
+            self.wfile.write(back)
+
+class Proxy(socketserver.ThreadingTCPServer):
+    """A server that hands requests on to an office, and notes them. It drops the next `cuts` answers to a POST. It has a page at /page."""
+
+    allow_reuse_address = daemon_threads = True
+    request_queue_size = 64
+
+    def __init__(self, office=0, port=0):
+        super().__init__((HERE, port), Carried)
+        self.office, self.asked, self.cuts, self.port = office, [], 0, self.server_address[1]
+        threading.Thread(target=self.serve_forever, args=[0.02], daemon=True).start()
+
+    def handle_error(self, *_):
+        """Says nothing of a connection that breaks."""
+
+    def __exit__(self, *_):
+        self.shutdown()
+        self.server_close()
 
 ROOT = Path(__file__).resolve().parents[2]
 TOWN, LOG, SCRIPT = "town.db", "town.db-wal", "orders.txt"
@@ -25,14 +149,33 @@ PORTS = itertools.count()
 # Debian's packages of commands that have another name.
 PACKAGES = {"node": "nodejs", "ab": "apache2-utils", "chromedriver": "chromium-driver"}
 
-
 class Wrong(Exception):
     """A condition that isn't met."""
 
+def wrong_if(is_wrong, what):
+    if is_wrong:
+        raise Wrong(what)
+
+class Table:
+    """A table in Markdown, as the pages of docs/ have them, printed row by row."""
+
+    printed = 0
+
+    def __init__(self, *heads):
+        print(end="\n" * (Table.printed > 0))
+        Table.printed += 1
+        self.row(*heads)
+        print("|---" * len(heads) + "|")
+
+    def row(self, *cells):
+        print("| " + " | ".join(map(str, cells)) + " |", flush=True)
+
+    def rows(self, counts):
+        for what, number in counts.items():
+            self.row(what, number)
 
 # How the program ended: its status, its output and its error output.
 Printed = collections.namedtuple("Printed", "status out err", defaults=("", ""))
-
 
 @functools.cache
 def program(variable="COUNT_OFFICE"):
@@ -42,18 +185,14 @@ def program(variable="COUNT_OFFICE"):
     subprocess.run([ROOT / "count-office", "--help"], stdout=subprocess.DEVNULL, check=True)
     return str(ROOT / "out" / variable.lower().replace("_", "-"))
 
-
 def checker(*words, **how):
     """Runs the program that needs no office, and returns its status and both outputs, as bytes."""
     ran = subprocess.run([program("CHECK_COUNT"), *words], capture_output=True, timeout=SECONDS, check=False, **how)
     return ran.returncode, ran.stdout, ran.stderr
 
-
 def needs(*commands):
-    """Raises an error if one of these commands isn't installed."""
     if missing := [PACKAGES.get(command, command) for command in commands if not shutil.which(command)]:
         raise Wrong(f"commands are missing; on Debian: apt-get install {' '.join(missing)}")
-
 
 def is_free(port, host=HERE):
     """Returns whether a port can be bound. Of port 0 it says whether the machine has the address."""
@@ -63,15 +202,12 @@ def is_free(port, host=HERE):
     except OSError:
         return False
 
-
 def free_port():
     """Returns a port that is free at both loopback addresses. Processes side by side take theirs from ranges of their own."""
     hosts, first = [host for host in (HERE, "::1") if is_free(0, host)], 10000 + 1000 * (os.getpid() % 20)
     return next(port for port in (first + number % 1000 for number in PORTS) if all(is_free(port, host) for host in hosts))
 
-
 def ended(process, seconds=SECONDS):
-    """Waits for a program, and returns what it printed."""
     try:
         printed = process.communicate(timeout=seconds)
     except subprocess.TimeoutExpired as error:
@@ -80,26 +216,19 @@ def ended(process, seconds=SECONDS):
         raise Wrong(f"no end within {seconds} seconds") from error
     return Printed(process.returncode, *(text.decode("utf-8", "surrogateescape") for text in printed))
 
-
 @contextlib.contextmanager
 def temporary_folder():
-    """Makes a folder, and removes it at the end of a `with`."""
     with tempfile.TemporaryDirectory() as folder:
         yield Path(folder)
 
-
 def open_many_files():
-    """Lets this process open as many files as it may: a connection needs one."""
     import resource  # Not every machine on which ballots are counted anew has it.
     most = resource.getrlimit(resource.RLIMIT_NOFILE)[1]
     resource.setrlimit(resource.RLIMIT_NOFILE, (most, most))
 
-
 def timed(act, *words):
-    """Returns what a function returns, and its seconds."""
     began = time.perf_counter()
     return act(*words), time.perf_counter() - began
-
 
 def waited(is_so, seconds=SECONDS):
     """Waits until something is so, at most some seconds. Returns whether it is."""
@@ -108,21 +237,15 @@ def waited(is_so, seconds=SECONDS):
         time.sleep(0.0005)
     return is_so()
 
-
 def listens(address, family=socket.AF_INET):
-    """Returns whether a connection to an address is accepted."""
     with socket.socket(family) as line:
         return line.connect_ex(address) == 0
-
 
 def remove(*paths):
     for path in paths:
         Path(path).unlink(missing_ok=True)
 
-
 class Office:
-    """A folder with the file of an office."""
-
     def __init__(self, folder):
         self.folder = Path(folder)
         self.folder.mkdir(parents=True, exist_ok=True)
@@ -133,40 +256,33 @@ class Office:
         return subprocess.Popen(words, cwd=self.folder, stdout=subprocess.PIPE, stderr=subprocess.PIPE, **how)
 
     def run(self, *words, seconds=SECONDS, **how):
-        """Runs an order to its end, and returns what it printed."""
         return ended(self.start(*words, **how), seconds)
 
     def do(self, *words):
-        """Runs an order that must be accepted, and returns its output."""
         printed = self.run(*words)
         if printed.status:
             raise Wrong(f"{' '.join(map(str, words))}: {printed}")
         return printed.out
 
     def write(self, name, lines):
-        """Writes a file of these lines into the folder."""
         (self.folder / name).write_text("".join(f"{line}\n" for line in lines), encoding="utf-8", newline="")
 
     def replay(self, lines):
-        """Sends orders that must all be accepted as one script."""
         self.write(SCRIPT, lines)
         return self.do("replay", SCRIPT)
 
     def begin(self, lines=()):
         """Makes the office, sends these orders as one script, and returns the office."""
-        if (printed := self.run("init")) != (0, "office ready\n", ""):
-            raise Wrong(f"init: {printed}")
+        wrong_if((printed := self.run("init")) != (0, "office ready\n", ""), f"init: {printed}")
         if lines:
             self.replay(lines)
         return self
 
     def write_codes(self, codes):
-        """Writes the file codes.txt for `serve`, its owner's alone."""
         self.write("codes.txt", [f"{clerk} {code}" for clerk, code in codes.items()])
         (self.folder / "codes.txt").chmod(0o600)
 
     def serve(self, *words, **how):
-        """Starts `serve`."""
         return Serving(self, *words, **how)
 
     def copied(self, folder, town=TOWN):
@@ -193,20 +309,15 @@ class Office:
                     if "file is not a database" in str(error):
                         return None
                     raise Wrong(f"SQLite: {error}") from error
-        if whole != [("ok",)]:
-            raise Wrong(f"the file isn't whole: {whole}")
+        wrong_if(whole != [("ok",)], f"the file isn't whole: {whole}")
         return found or None
 
-
-class Serving:
+class Serving(contextlib.AbstractContextManager):
     """The program while it serves an office. At the end of a `with` it is killed."""
 
     def __init__(self, office, *words, connections=CONNECTIONS, port=None, **how):
         self.port = port or free_port()
         self.process = office.start("serve", self.port, connections, *words, **how)
-
-    def __enter__(self):
-        return self
 
     def __exit__(self, *_):
         self.kill()
@@ -227,12 +338,10 @@ class Serving:
         return self
 
     def ask(self, sends, **how):
-        """Sends bytes on a connection of their own, and returns what comes back."""
         line = self.connect()
         return answer(line, sends, **how) if line else b""
 
     def ended(self, seconds=SECONDS):
-        """Waits for its end, and returns what it printed."""
         return ended(self.process, seconds)
 
     def killed_after(self, seconds=None):
@@ -242,13 +351,11 @@ class Serving:
         return killer
 
     def kill(self):
-        """Kills it, and returns what it printed."""
         if self.process.stdout.closed:
             return None
         self.process.kill()
         return ended(self.process)
 
     def memory(self):
-        """Returns the most memory that it had so far, in MB."""
         status = Path(f"/proc/{self.process.pid}/status").read_text(encoding="ascii")
         return int(status.split("VmHWM:")[1].split()[0]) / 1024

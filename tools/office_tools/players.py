@@ -1,20 +1,84 @@
-"""People at pages of the office in Chromium: the returning officer at the console, tellers at theirs; and an evening that serves them."""
+"""People at pages of the office in Chromium, which Debian's python3-selenium drives: the returning officer, tellers, those at
+the screen in the hall; and an evening."""
 import contextlib
 import functools
 import json
 import re
+import sys
 import time
 
-from office_tools.browser import Browser
 from office_tools.election import CODES, OFFICE_CODE
-from office_tools.office import SCRIPT, Office, Wrong, free_port, temporary_folder
-from office_tools.web import HERE, Proxy
+from office_tools.office import HERE, SCRIPT, SECONDS, Office, Proxy, Wrong, free_port, needs, temporary_folder, wrong_if
+
+WORDS = ["--headless=new", "--no-sandbox", "--disable-gpu", "--no-first-run", "--disable-background-networking"]
+
+class Browser(contextlib.AbstractContextManager):
+    def __init__(self, words=()):
+        needs("chromium", "chromedriver")
+        # Where Debian has its modules: Python may be another one.
+        sys.path.append("/usr/lib/python3/dist-packages")
+        try:
+            from selenium import webdriver
+        except ImportError as error:
+            raise Wrong("selenium is missing; on Debian: apt-get install python3-selenium") from error
+        options = webdriver.ChromeOptions()
+        for word in (*WORDS, *words):
+            options.add_argument(word)
+        options.set_capability("goog:loggingPrefs", {"browser": "ALL"})
+        self.driver = webdriver.Chrome(options=options)
+        self.driver.set_script_timeout(10 * SECONDS)
+        self.open, self.reload, self.picture = self.driver.get, self.driver.refresh, self.driver.get_screenshot_as_png
+        self.call, self.windows = self.driver.execute_cdp_cmd, self.driver.window_handles
+        self.show(0)
+
+    def __exit__(self, *_):
+        self.driver.quit()
+
+    def show(self, number):
+        """Brings the window of this number to the front, where alone keys are taken. What is called next is of that window."""
+        self.driver.switch_to.window(self.windows[number])
+        self.call("Page.bringToFront", {})
+        self.call("Emulation.setFocusEmulationEnabled", {"enabled": True})
+
+    @contextlib.contextmanager
+    def another(self):
+        self.driver.switch_to.new_window("window")
+        self.windows.append(self.driver.current_window_handle)
+        yield self.show(-1)
+        self.show(-1)
+        self.driver.close()
+        self.windows.pop()
+        self.show(0)
+
+    def value(self, expression):
+        return self.driver.execute_script(f"return (\n{expression}\n)")
+
+    def until(self, expression):
+        end = time.monotonic() + SECONDS
+        while not self.value(expression):
+            if time.monotonic() > end:
+                raise Wrong(f"never: {expression}; the page shows {self.text()!r}")
+            time.sleep(0.05)
+
+    def text(self):
+        return self.value("document.body ? document.body.innerText : ''")
+
+    def resize(self, width, height):
+        self.call("Emulation.setDeviceMetricsOverride", {"width": width, "height": height, "deviceScaleFactor": 1, "mobile": False})
+
+    def press(self, *keys):
+        """Presses keys, each a character or a name of WebDriver's, such as Enter."""
+        from selenium.webdriver.common.action_chains import ActionChains
+        from selenium.webdriver.common.keys import Keys
+        ActionChains(self.driver).send_keys(*(key if len(key) == 1 else getattr(Keys, key.upper()) for key in keys)).perform()
+
+    def said(self):
+        return [entry["message"] for entry in self.driver.get_log("browser")]
 
 SECTIONS = ["overview", "nominations", "batches", "doubtful", "count", "journal"]
 # What has the focus: its key, its id, and the id of the list that it opens.
 FOCUSED = """(({id, dataset, tagName, parentElement}) => [dataset?.key, id, tagName === 'SUMMARY' && parentElement.id].filter(Boolean))(
     document.activeElement ?? {})"""
-
 
 def chained(kind):
     """Makes each step of a class that returns nothing return its object, so that a play is read as a row of steps."""
@@ -29,22 +93,19 @@ def chained(kind):
             setattr(kind, name, returning(step))
     return kind
 
-
 @chained
 class Player(Browser):
-    """Somebody at a browser of their own, in an evening."""
+    FLAGS = ()
 
     def __init__(self, evening):
-        super().__init__()
+        super().__init__(self.FLAGS)
         self.evening = evening
         self.resize(*self.SIZES[0])
 
     def complaints(self):
-        """Returns what the browser's console logged, but for what was done on purpose: connections that broke, and denials."""
         return [line for line in self.said() if not re.search(self.EXPECTED, line)]
 
     def shows(self, words, part="result"):
-        """Waits until an element of the page shows these words."""
         self.until(f"document.getElementById('{part}')?.innerText.includes({json.dumps(words)})")
 
     def keys(self, *keys):
@@ -58,15 +119,11 @@ class Player(Browser):
             self.resize(width, min(2400, max(height, self.value("document.documentElement.scrollHeight"))))
             time.sleep(0.1)
             (self.evening.pictures / f"{name}-{width}.png").write_bytes(self.picture())
-            if (wide := self.value("document.documentElement.scrollWidth")) > width:
-                raise Wrong(f"{name}: {wide} pixels wide at {width}")
+            wrong_if((wide := self.value("document.documentElement.scrollWidth")) > width, f"{name}: {wide} pixels wide at {width}")
         self.resize(*self.SIZES[0])
-
 
 @chained
 class Officer(Player):
-    """The returning officer at the console."""
-
     SIZES, EXPECTED = ((1280, 800), (800, 600), (400, 800)), "ERR_|status of (401|503)|Clear-Site-Data"
     # What the page may ask for: docs/CONSOLE-API.md.
     ASKED = re.compile(r"(GET /office/(|leave|wards(/\d+(/batches|/doubtful)?)?|batches/\d+/(differences|papers)|receipts(\?actor=\d+)?)"
@@ -100,7 +157,6 @@ class Officer(Player):
         self.until(f"Boolean({self.found(key)}) && !{self.found(key)}.disabled")
 
     def click(self, key):
-        """Reaches a button with the Tab key, and presses it."""
         self.has(key).tab_to(key).press("Enter")
 
     def tab_to(self, name):
@@ -116,7 +172,6 @@ class Officer(Player):
         self.tab_to(name).press(*str(text))
 
     def fill(self, form, **fields):
-        """Types into the fields of a form."""
         for field, text in fields.items():
             self.type(f"{form}-{field}", text)
 
@@ -127,7 +182,6 @@ class Officer(Player):
         self.press("Enter")
 
     def drop(self, place, **files):
-        """Drops files on an element."""
         given = json.dumps([[name.replace("_", "-") + ".csv", "".join(f"{line}\n" for line in lines)] for name, lines in files.items()])
         self.driver.execute_script(f"""const data = new DataTransfer();
             for (const [name, text] of {given}) data.items.add(new File([text], name));
@@ -135,34 +189,33 @@ class Officer(Player):
             document.getElementById('{place}').dispatchEvent(event);""")
 
     def asked(self, *words):
-        """Waits for a confirmation dialog, and checks that it has all of these words."""
         self.until("document.getElementById('ask').open")
         text = self.value("document.getElementById('ask').innerText")
-        if missing := [word for word in words if word not in text]:
-            raise Wrong(f"the dialog lacks {missing}: {text!r}")
+        wrong_if(missing := [word for word in words if word not in text], f"the dialog lacks {missing}: {text!r}")
 
     def yes(self, *words, said="Done"):
-        """Confirms a dialog, and waits for the reply."""
         self.asked(*words).forget().keys("y").shows(said).until("!document.body.classList.contains('busy')")
 
     def forget(self):
         self.value("document.getElementById('result').hidden = true")
 
     def leave_field(self):
-        """Takes the focus from where it is, so that keys are the section's."""
         self.value("document.activeElement.blur()")
 
+def keys_of(text):
+    """Returns the keys of a paper on the page on which clerks key."""
+    fields = text.rstrip(",").split(",")
+    keys = ["d"] if text == "D" else [key for field in fields for key in ("0" if not field else field if len(field) == 1 else "." + field)]
+    return [*keys, "Enter"]
 
 @chained
 class Teller(Player):
-    """A clerk at the page to key on."""
-
     SIZES, EXPECTED = ((1024, 768), (400, 800)), "ERR_"
     ASKED = re.compile(r"(GET /clerks/\d+/(work|leave|batches/\d+/(candidates|keyed))?|POST /clerks/\d+/batches/\d+/keying) HTTP/1.1")
 
     def __init__(self, evening, clerk):
         super().__init__(evening)
-        self.clerk, self.count, self.page = clerk, 0, f"clerks/{clerk}/"
+        self.clerk, self.page = clerk, f"clerks/{clerk}/"
 
     def log_in(self):
         """Opens the clerk's page. The browser has the login from then on, as if it had been typed when the browser asked for it."""
@@ -171,11 +224,13 @@ class Teller(Player):
         self.until("!document.getElementById('batches').hidden && document.activeElement.tagName === 'BUTTON'")
 
     def keys(self, *keys, at=0):
-        """Presses keys, and counts them. Then the cursor must be at this paper."""
+        """Presses keys. Then the cursor must be at this paper."""
         self.press(*keys)
-        self.count += len(keys)
         if at and not self.shown("paper").startswith(f"Paper {at} of "):
             raise Wrong(f"clerk {self.clerk} is at {self.shown('paper')!r}, and not at paper {at}: {self.shown('notice')!r}")
+
+    def papers(self, *papers, at=0):
+        self.keys(*(key for text in papers for key in keys_of(text)), at=at)
 
     def views(self, part):
         self.until(f"!document.getElementById('{part}').hidden")
@@ -183,47 +238,89 @@ class Teller(Player):
     def shown(self, part):
         return self.value(f"document.getElementById('{part}').textContent")
 
+LETTERS = {"E": "Elected", "e": "Elected", "x": "Excluded", "-": ""}
+# What a row of the chart shows, as a line of the sheet has it.
+ROWS = """[...document.querySelectorAll('#bars li')].map((it) => [it.querySelector('.number'), it.querySelector('.votes'),
+    it.querySelector('.standing'), it.querySelector('.name')].map((each) => each.textContent))"""
+# The elements that are wider or taller than their places.
+CUT = """[...document.querySelectorAll(':root, #which, #title, #view, #view > *, .name, .state, .standing, .votes, .change')]
+    .filter((it) => it.scrollWidth > it.clientWidth + 1
+        || it.className === 'name' && it.firstChild.getBoundingClientRect().height > it.clientHeight
+        || !/state|standing|votes|change/.test(it.className) && it.scrollHeight > it.clientHeight + 1)
+    .map((it) => `${it.tagName} ${it.id || it.className}: ${it.textContent.slice(0, 60)}`)"""
+
+def as_shown(text):
+    return re.sub("[\u202e\u2066]", "", text).replace("\x85", "\ufffd")
+
+@chained
+class Screen(Player):
+    """A screen in the hall, which stays where it is until `look` changes it."""
+
+    FLAGS, SIZES, EXPECTED = ["--hide-scrollbars"], ((1920, 1080),), "ERR_"
+    ASKED = re.compile(r"GET (/screen(/wards)?|/wards/\d+/(sheet|result)) HTTP/1.1")
+
+    def begin(self):
+        self.open(self.evening.address("screen"))
+        self.until("office.text !== null && office.wards.filter(isCounted).every((it) => office.counts.has(it.ward))")
+
+    def look(self, ward, *words, part=None, picture=""):
+        """Lets the screen look at the office, and show a ward, or the list, or a part. It shows these words, and no name is cut off."""
+        self.driver.execute_async_script("const done = arguments[0]; look(() => { meetChange(); draw(); }).then(() => done())")
+        part_of = "" if part is None else f"showPart({part});"
+        self.value(f"""(() => {{ shown.hold = 'part'; showTurn({{ward: {ward}, part: 0}}); {part_of} draw();
+            document.getElementById('keys').hidden = true; }})()""")
+        text = " ".join(self.text().split())
+        wrong_if(missing := [word for word in words if word not in text], f"the screen lacks {missing}: {text!r}")
+        self.until("document.getAnimations().length === 0")
+        wrong_if(cut := self.value(CUT), f"ward {ward}, {words}: cut off: {cut and cut[:5]}")
+        if picture:
+            self.pictured(picture)
+
+    def compare(self, ward, part):
+        """Checks that the chart has the rows of the sheet at this stage, without the characters that steer: votes as they are printed."""
+        stages = re.split(r"^Stage \d+: .*\n", as_shown(self.evening.office.do("sheet", ward)), flags=re.M)
+        wanted = [[line[:2].strip(), line[3:16].strip(), LETTERS[line[17]], line[19:]] for line in stages[part].split("\n")[:-3]]
+        # The screen also says at which stage, and at the end who isn't elected.
+        own = re.compile(r" stage \d+$|^Not elected$")
+        found = [[number, votes, own.sub("", standing), name] for number, votes, standing, name in self.value(ROWS)]
+        wrong_if(found != wanted, f"ward {ward}, stage {part}: the screen shows {found}, the sheet has {wanted}")
 
 class Evening:
     """An office and its pages, the proxy through which browsers reach it, and the folder for pictures."""
 
-    def __init__(self, folder, pictures, office):
-        self.folder, self.pictures = folder, pictures
+    def __init__(self, folder, pictures, office, words):
+        self.folder, self.pictures, self.words = folder, pictures, words
         self.office, self.line = office(folder / "office"), Proxy(free_port())
         self.start()
 
     def start(self):
         self.office.write_codes(CODES | {"office": OFFICE_CODE})
-        self.server = self.office.serve("--codes", "codes.txt", port=self.line.office).wait()
+        self.server = self.office.serve(*self.words, port=self.line.office).wait()
 
     def address(self, part, login=""):
         return f"http://{login}{HERE}:{self.line.port}/{part}"
 
     def another(self, orders, folder="another"):
-        """Serves another office at the same address."""
+        """Serves another office, of these orders, at the same address."""
         self.server.kill()
         self.office = Office(self.folder / folder).begin()
         self.office.write(SCRIPT, orders)
-        if printed := self.office.run("replay", SCRIPT, seconds=900).err:
-            raise Wrong(printed)
+        wrong_if(printed := self.office.run("replay", SCRIPT, seconds=900).err, printed)
         self.start()
 
     def check(self, players):
-        """Checks that the pages asked for nothing but what is theirs, and broke no policy."""
         if strange := {line for line in self.line.asked if not any(player.ASKED.fullmatch(line) for player in players)}:
             raise Wrong(f"a page asked {strange}")
         for player in players:
-            if strange := player.complaints():
-                raise Wrong(f"the browser said {strange[:5]}")
-
+            wrong_if(strange := player.complaints(), f"the browser said {strange[:5]}")
 
 @contextlib.contextmanager
-def played(pictures, *players, office=lambda folder: Office(folder).begin()):
+def played(pictures, *players, office=lambda folder: Office(folder).begin(), words=("--codes", "codes.txt")):
     """Begins an evening with people at browsers, each made from the evening, and checks how it ended."""
     if pictures:
         pictures.mkdir(parents=True, exist_ok=True)
     with temporary_folder() as folder, contextlib.ExitStack() as open_browsers:
-        evening = Evening(folder, pictures, office)
+        evening = Evening(folder, pictures, office, words)
         with evening.line:
             try:
                 there = [open_browsers.enter_context(player(evening)) for player in players]

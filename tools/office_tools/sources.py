@@ -1,7 +1,6 @@
 """What the Rattle sources under crates/ hold, read as text: functions, with documentation and contracts, and wrong bodies."""
 import itertools
 import re
-from dataclasses import dataclass, field
 from pathlib import Path
 
 from office_tools.office import ROOT
@@ -12,39 +11,21 @@ TESTS = re.compile(r"#\[cfg\(test\)\]\s*mod tests \{|\Z")
 # Words of specs/ that say what several clauses say, each with its record, whose fields those are.
 WORDS = {"Migrates": "Migrates", "CopiesTo": "CopiesTo", "Loads": "LoadsAt", "Alters": "Alters"}
 CONTRACT = re.compile(r"\b(ensures|requires)\b\*?\s*(\w*)\*?\s*$")
+DEFINED = re.compile(r"^(?:abbrev|unfoldable|record|data)\b[^:\n]*?([^\s:]+) :|\bconst (\w+):", re.M)
 
-
-@dataclass
 class Function:
-    """A function of a crate: where it is, whose it is, and what is said of it."""
-    path: str                   # below the crate's folder, as src/lib.rt
-    line: int
-    owners: list                # the type and the trait of its block
-    name: str
-    public: bool
-    in_trait_impl: bool
-    comment: str                # the comment above it, without its slashes
-    start: int                  # where it begins and ends in its file
-    end: int = 0
-    ensures: list = field(default_factory=list)
-    requires: list = field(default_factory=list)
-    words: dict = field(default_factory=dict)   # the first word of each of its clauses, by the clause's name
-    head: str = ""              # from `fn` to its contract, without comments and literals
-    body: str = ""              # the body, without comments and literals
+    """A function of a crate: its file below the crate's folder, where it begins and ends there, and the type and the trait of its block.
 
-    @property
-    def title(self):
-        return f"{self.owners[0]}::{self.name}" if self.owners else self.name
+    It has the names of its clauses, and the first word of each of `ensures` by its name. Its head, from `fn` to the contract, and its body
+    are without comments and literals.
+    """
 
-    @property
-    def module(self):
-        return Path(self.path).relative_to("src").with_suffix("").parts
-
-
-def masked(text):
-    """Returns the text with comments and literals blanked, each of its length."""
-    return NOISE.sub(lambda m: re.sub(r"[^\n]", " ", m.group()), text)
-
+    def __init__(self, path, name, block, start):
+        self.path, self.name, self.start, self.end = path, name, start, 0
+        self.owners, self.public, self.in_trait_impl = block
+        self.ensures, self.requires, self.words, self.head, self.body = [], [], {}, "", ""
+        self.title = f"{self.owners[0]}::{name}" if self.owners else name
+        self.module = Path(path).relative_to("src").with_suffix("").parts
 
 def owners_of(head):
     """Returns the types whose functions are in the block that begins so: of a trait's impl, type and trait."""
@@ -55,7 +36,6 @@ def owners_of(head):
     parts = [re.findall(r"\w+", part) for part in re.split(r"\bfor\b", head.rstrip("{ \n").split(" where ")[0])]
     return [words[-1] for words in reversed(parts) if words]
 
-
 def after_bracket(text, at):
     """Returns the place after the bracket that closes the one at a place."""
     depth = 0
@@ -64,13 +44,6 @@ def after_bracket(text, at):
         if depth == 0:
             return match.end()
     return len(text)
-
-
-def comment_above(lines, number):
-    """Returns the comment right above a line, past its attributes; its lines without slashes."""
-    above = itertools.takewhile(lambda line: line.startswith(("//", "#[")), map(str.strip, reversed(lines[:number])))
-    return "\n".join(reversed([line.lstrip("/").strip() for line in above if line.startswith("//")]))
-
 
 def read_contract(function, text, at):
     """Reads a function's contract from the end of its name on: the names of its clauses, and where its body is."""
@@ -93,11 +66,11 @@ def read_contract(function, text, at):
             break
     function.head = re.split(r"\b(?:ensures|requires)\b", text[function.start:place])[0]
 
-
 def functions_in(path, source):
     """Returns the functions of a source file, in its order; those of `mod tests` at its end left out."""
-    text, lines, found, blocks = masked(source), source.split("\n"), [], []
-    text = text[:TESTS.search(text).start()]
+    # Comments and literals are blanked, each in its length.
+    text = NOISE.sub(lambda m: re.sub(r"[^\n]", " ", m.group()), source)
+    text, lines, found, blocks = text[:TESTS.search(text).start()], source.split("\n"), [], []
     for match in TOKEN.finditer(text):
         token, before = match.group(), text[:match.start()]
         if found and match.start() < found[-1].end:
@@ -105,7 +78,11 @@ def functions_in(path, source):
         if token.startswith("fn"):
             owners, is_trait, is_impl = next((block for block in reversed(blocks) if block), ([], False, False))
             public, line = is_trait or bool(re.search(r"\bpub (const )?$", before)), before.count("\n")
-            found.append(Function(path, line + 1, owners, token.split()[1], public, is_impl, comment_above(lines, line), match.start()))
+            found.append(Function(path, token.split()[1], (owners, public, is_impl), match.start()))
+            # The comment right above it, past its attributes.
+            above = itertools.takewhile(lambda it: it.startswith(("//", "#[")), map(str.strip, reversed(lines[:line])))
+            comment = "\n".join(reversed([it.lstrip("/").strip() for it in above if it.startswith("//")]))
+            found[-1].line, found[-1].comment = line + 1, comment
             read_contract(found[-1], text, match.end())
         elif token == "}":
             blocks = blocks[:-1]
@@ -113,7 +90,6 @@ def functions_in(path, source):
             is_public_trait = token.startswith("trait") and before.rstrip().endswith("pub")
             blocks.append((owners_of(token), is_public_trait, token.startswith("impl") and " for " in token) if token != "{" else None)
     return found
-
 
 class Crate:
     """A crate's sources: texts by path below its folder, functions, the fields of each record of specs/, and wrong bodies by name."""
@@ -136,6 +112,37 @@ class Crate:
         is_open = self.open_modules.issuperset(function.module)
         return "src/lib.rt" in self.texts and function.public and (is_open or (function.owners or [function.name])[0] in self.used)
 
+    def text_at(self, path):
+        return (self.folder / path).read_text() if (self.folder / path).is_file() else ""
+
+    def targets_of(self, edit):
+        """Returns what an edit changes: functions of the crate, or (file, the definition or constant in it) of something else."""
+        found = []
+        for path, old, _ in changes_of(edit):
+            text = self.text_at(path)
+            place = text.find(old)
+            inside = [f for f in self.functions if f.path == path and f.start <= place < f.end]
+            if inside:
+                found += inside[-1:]
+            elif not old.startswith("use "):
+                names = DEFINED.findall(text[:max(place, 0)])
+                found.append((path, "".join(names[-1]) if names else None))
+        return list(dict.fromkeys(found))
+
+    def functions_of(self, edit):
+        return [target for target in self.targets_of(edit) if isinstance(target, Function)]
+
+def changes_of(edit):
+    """Returns [(file, old text, new text)] of an edit."""
+    path, found = "", []
+    for key, _, words in (line.partition(":") for line in edit.splitlines()):
+        if key == "file":
+            path = words.strip()
+        elif key == "old":
+            found.append([path, words[1:], ""])
+        elif key == "new":
+            found[-1][2] = words[1:]
+    return found
 
 def crates():
     """Returns all crates in the order of crates.txt, lowest first."""

@@ -6,7 +6,7 @@ from pathlib import Path
 
 from office_tools.election import (
     COPY, COPY_LOG, COPYING, ELECTION, FILE, MADE, READS, REPLAY, REQUESTS, SCRIPTED, Order, earlier_office, offices)
-from office_tools.office import LOG, NO_OFFICE, SCRIPT, TOWN, Wrong, remove
+from office_tools.office import LOG, NO_OFFICE, SCRIPT, TOWN, Wrong, remove, wrong_if
 
 NOT_WRITTEN = "fault 110: copy not written"
 # What `serve` prints besides, if it can't make its socket. Clients are served all the same.
@@ -16,20 +16,17 @@ ON_FILES = ("openat", "statx", "readlink", "pread64", "read", "pwrite64", "write
             "flock", "unlink", "fchmod", "fchown")
 CALL, REFUSED = re.compile(r"^\d+ +(\w+)\(", re.MULTILINE), re.compile(r"\(INJECTED\)$|= -1 EFBIG", re.MULTILINE)
 
-
 def strace(trace, folder, names, *changes, calls=ON_FILES):
     """Returns the words that run a program under `strace`, which notes its calls on some files of a folder, and changes some of these."""
     paths = [f"-P{path}" for name in names for path in (name, folder / name)]
     changed = [f"-einject={change}" for change in changes]
     return ["strace", "-D", "-f", "--quiet=all", "-o", trace, f"-etrace={','.join(calls)}", *paths, *changed]
 
-
 def left(office, status=0):
     """Returns the rows of the office and those of its copy. With status 0 the copy is its file alone, so its log is removed."""
     if status == 0:
         remove(office.folder / COPY_LOG)
     return office.rows(), office.rows(COPY)
-
 
 class Trial:
     """An order, the office before it, and what it prints and leaves if nothing is refused."""
@@ -75,20 +72,16 @@ class Trial:
 
     def place_of(self, printed, found):
         """Returns the number of the state that was found: the last one if the order was answered."""
-        if found not in self.states:
-            raise Wrong(f"other rows: {printed}")
+        wrong_if(found not in self.states, f"other rows: {printed}")
         place, last = self.states.index(found), len(self.states) - 1
-        if place != last and (printed == self.printed or printed.out == self.printed.out != ""):
-            raise Wrong(f"answered, and lost: {printed}")
-        if place < min(last, self.order.replies(printed.out)):
-            raise Wrong(f"{place} of {last} records found: {printed}")
+        wrong_if(place != last and (printed == self.printed or printed.out == self.printed.out != ""), f"answered, and lost: {printed}")
+        wrong_if(place < min(last, self.order.replies(printed.out)), f"{place} of {last} records found: {printed}")
         return place
 
     def check_beside(self, office, printed, keeps):
         """Checks that nothing is next to the office but a copy that was reported, or what may be kept of one: all of it, or no office."""
         there = set(os.listdir(office.folder)) - {TOWN, LOG, FILE, SCRIPT}
-        if others := there - ({COPY, COPY_LOG} if printed.out or keeps else set()):
-            raise Wrong(f"left behind: {others}: {printed}")
+        wrong_if(others := there - ({COPY, COPY_LOG} if printed.out or keeps else set()), f"left behind: {others}: {printed}")
         if COPY in there:
             opened = office.copied(self.folder / "opened", COPY).run("wards")
             if not (opened.status == 0 if office.rows(COPY) else opened == (3, "", NO_OFFICE)):
@@ -99,8 +92,16 @@ class Trial:
         remove(office.folder / COPY, office.folder / COPY_LOG)
         wanted = MADE.get(self.order.words[0], self.printed) if place else self.printed
         again = self.order.done(office)
-        if again != wanted or left(office) != self.states[-1]:
-            raise Wrong(f"{printed}, and given again {again}")
+        wrong_if(again != wanted or left(office) != self.states[-1], f"{printed}, and given again {again}")
+
+    def judged(self, here, printed, keeps, is_right):
+        """Judges what an order that was stopped printed and left, and gives it again. Returns the number of the state that was found."""
+        self.check_beside(here, printed, keeps)
+        place = self.place_of(printed, left(here, printed.status))
+        if not is_right(place):
+            raise Wrong(f"printed {printed}, and {place} of {len(self.states) - 1} records are found")
+        self.check_again(here, printed, place)
+        return place
 
     def traced(self, names=(), changes=(), under=(), env=(), calls=ON_FILES):
         """Gives the order under `strace`. Returns the office, what was printed, and the trace."""
@@ -111,36 +112,27 @@ class Trial:
         return here, printed, trace.read_text(errors="replace")
 
     def refused(self, faults, keeps=False, **how):
-        """Gives the order with a refusal, judges, and gives it again. Returns (whether a fault was reported, the number of the state that
-        was found), or None if it met no refusal."""
+        """Gives the order with a refusal. Returns (whether a fault was reported, the number of the state that was found), or None if it met
+        no refusal."""
         here, printed, trace = self.traced(**how)
         printed = printed._replace(err=printed.err.removeprefix(NO_SOCKET))
-        self.check_beside(here, printed, keeps)
-        found = left(here, printed.status)
-        place, replies = self.place_of(printed, found), self.order.replies(printed.out)
-        differs, is_met = printed != self.printed, REFUSED.search(trace)
-        if differs and not (is_met and self.is_fault(printed, faults) and replies <= place <= replies + 1):
-            raise Wrong(f"printed {printed}, and {place} of {len(self.states) - 1} records are found")
-        self.check_again(here, printed, place)
+        differs, is_met, replies = printed != self.printed, REFUSED.search(trace), self.order.replies(printed.out)
+        place = self.judged(here, printed, keeps, lambda place: not differs or (
+            is_met and self.is_fault(printed, faults) and replies <= place <= replies + 1))
         return (differs, place) if is_met else None
 
-    def runs(self, refusals):
-        """Gives the order with each refusal. Returns [how many met one, reported a fault, and were answered, and what they found]."""
+    def runs(self, act, ways):
+        """Stops the order in each way, which has a name and words. Returns [how often it was stopped, how often not, what was found]."""
         found = []
-        for which, how in refusals:
+        for which, *words in ways:
             try:
-                found += filter(None, [self.refused(**how)])
+                found += filter(None, [act(self, *words)])
             except Wrong as error:
                 raise Wrong(f"{self.order.name}: {which}: {error}") from error
-        faults = sum(is_fault for is_fault, _ in found)
-        return [len(found), faults, len(found) - faults, *self.places([place for _, place in found])]
-
-    def places(self, places):
-        """Returns how many found the rows before the order, those after it, and some records."""
+        places, stopped = [place for _, place in found], sum(is_stopped for is_stopped, _ in found)
         old = sum(place == 0 for place in places)
         new = sum(place == len(self.states) - 1 for place in places if place)
-        return [old, new, len(places) - old - new]
-
+        return [stopped, len(found) - stopped, old, new, len(found) - old - new]
 
 def trials(folder, name="", orders=None):
     """Returns the trials of the election, or those of the orders of one name, each on the office before its order."""
@@ -151,12 +143,10 @@ def trials(folder, name="", orders=None):
         wanted += [(before[number], order) for number, order in READS + REQUESTS]
     wanted += [(before[-1], COPYING), (before[SCRIPTED[0]], REPLAY)]
     found = [Trial(folder / f"trial-{number}", office, order, number) for number, (office, order) in enumerate(wanted)]
-    if found[-2].states[-1] != (before[-1].rows(),) * 2:
-        raise Wrong("a copy has other rows than its office")
+    wrong_if(found[-2].states[-1] != (before[-1].rows(),) * 2, "a copy has other rows than its office")
     if is_small and found[-1].states[-1] != left(before[SCRIPTED[-1] + 1]):
         raise Wrong("a script leaves other rows than its orders, each given alone")
     return [trial for trial in found if name in ("", trial.order.words[0])]
-
 
 def side_by_side(act, items):
     """Yields what a function returns of each item, of as many at once as there are processors; what it raises ends the others."""
@@ -165,3 +155,7 @@ def side_by_side(act, items):
             yield from pool.map(act, items)
         finally:
             pool.shutdown(wait=False, cancel_futures=True)
+
+def added(totals, counts):
+    """Adds a row of numbers to another."""
+    return [total + count for total, count in zip(totals, counts)]

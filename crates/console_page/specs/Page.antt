@@ -15,6 +15,7 @@ use Rattle.console_page.specs.declared.script.frame.TheConstants.{FRAME}
 use Rattle.console_page.specs.declared.script.giving.TheConstants.{GIVING}
 use Rattle.console_page.specs.declared.script.journal.TheConstants.{JOURNAL}
 use Rattle.console_page.specs.declared.script.keyings.TheConstants.{KEYINGS}
+use Rattle.console_page.specs.declared.script.mending.TheConstants.{MENDING}
 use Rattle.console_page.specs.declared.script.nominations.TheConstants.{NOMINATIONS}
 use Rattle.console_page.specs.declared.script.overview.TheConstants.{OVERVIEW}
 use Rattle.console_page.specs.declared.script.papers.TheConstants.{PAPERS}
@@ -30,7 +31,7 @@ unfoldable pub script : List ℕ
 script =
     BASICS.now ++ (ADVICE.now ++ (WORDS.now ++ (REQUESTS.now ++ (PAPERS.now ++ (PENDING.now ++ (DIALOGS.now ++ (FRAME.now ++ (OVERVIEW.now ++ (
     NOMINATIONS.now ++ (GIVING.now ++ (BATCHES.now ++ (KEYINGS.now ++ (ADJUDICATION.now ++ (VERDICTS.now ++ (SEALING.now ++ (
-    CHART.now ++ (COUNTING.now ++ (DECLARING.now ++ (JOURNAL.now ++ EVENTS.now)))))))))))))))))))
+    CHART.now ++ (COUNTING.now ++ (DECLARING.now ++ (MENDING.now ++ (JOURNAL.now ++ EVENTS.now))))))))))))))))))))
 
 -- the style of the page
 abbrev pub style : List ℕ

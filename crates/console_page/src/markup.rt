@@ -81,6 +81,7 @@ You can check the list before anything is added.</p>
 for example <b>paper 12/4</b> for batch 12 and teller 4.</p>
 <p class="acts"><label class="button">Choose files <input id="keyings-files" type="file" multiple accept=".csv,text/csv,text/plain" class="unseen"></label></p></div>
 <div id="brought"></div></details>
+<p id="batch-forms" class="acts"></p>
 <div id="batch-filter" class="row"></div>
 <div id="batch-list"></div>
 <div id="batch-more"></div>
@@ -89,6 +90,7 @@ for example <b>paper 12/4</b> for batch 12 and teller 4.</p>
 <section id="doubtful" aria-labelledby="doubtful-title" hidden>
 <div class="head"><h2 id="doubtful-title" tabindex="-1">Doubtful papers</h2><div class="pick" data-pick="doubtful"></div></div>
 <div id="judging"></div>
+<p id="doubtful-forms" class="acts"></p>
 <div id="judged"></div>
 </section>
 
@@ -105,6 +107,7 @@ for example <b>paper 12/4</b> for batch 12 and teller 4.</p>
 <div><h3>Copies</h3><div id="copies"></div></div>
 <div><h3>Downloads</h3><div id="files"></div></div>
 </div>
+<div id="mending"></div>
 <h3>Accepted orders</h3>
 <p class="row"><label>Search <input id="receipt-search" type="search" autocomplete="off"></label>
 <label>Sent by <select id="receipt-actor"><option value="">anyone</option><option value="0">the office</option></select></label></p>

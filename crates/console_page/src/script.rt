@@ -19,6 +19,7 @@ mod frame;
 mod giving;
 mod journal;
 mod keyings;
+mod mending;
 mod nominations;
 mod overview;
 mod papers;
@@ -41,6 +42,7 @@ use crate::script::frame::FRAME;
 use crate::script::giving::GIVING;
 use crate::script::journal::JOURNAL;
 use crate::script::keyings::KEYINGS;
+use crate::script::mending::MENDING;
 use crate::script::nominations::NOMINATIONS;
 use crate::script::overview::OVERVIEW;
 use crate::script::papers::PAPERS;
@@ -58,6 +60,6 @@ pub(crate) fn script_text(alloc: Global) -> Result<String, AllocError>
 {
     format!(in alloc;
         "{BASICS}{ADVICE}{WORDS}{REQUESTS}{PAPERS}{PENDING}{DIALOGS}{FRAME}{OVERVIEW}{NOMINATIONS}{GIVING}{BATCHES}\
-{KEYINGS}{ADJUDICATION}{VERDICTS}{SEALING}{CHART}{COUNTING}{DECLARING}{JOURNAL}{EVENTS}"
+{KEYINGS}{ADJUDICATION}{VERDICTS}{SEALING}{CHART}{COUNTING}{DECLARING}{MENDING}{JOURNAL}{EVENTS}"
     )
 }

@@ -34,11 +34,12 @@ button:disabled, button.main:disabled { border-color: #767676; background: #eee;
 button.here { background: #111; border-color: #111; color: #fff; }
 button.quiet { border-color: transparent; background: transparent; text-decoration: underline; color: inherit; }
 input, select { padding: .35rem .45rem; border: 2px solid #595959; border-radius: .25rem; background: #fff; max-width: 100%; }
-input.long { width: 22rem; }
+input.long { width: 22rem; max-width: calc(100% - .25rem); }
 label > input, label > select { margin-left: .25rem; }
 input.over { border-color: #9a1500; background: #fff0ed; }
 :focus-visible, .button:focus-within { outline: 4px solid #e08a00; outline-offset: 1px; }
 .acts, .row { display: flex; flex-wrap: wrap; gap: .5rem .8rem; align-items: center; }
+.row > label { min-width: 0; max-width: 100%; }
 .columns { display: grid; grid-template-columns: 1fr 1fr; gap: .5rem 2rem; }
 .warning { border: 3px solid #9a1500; border-radius: .35rem; padding: .4rem .7rem; background: #fff0ed; }
 .busy main button:not(.quiet), .busy #ask-yes { opacity: .5; }
@@ -180,7 +181,7 @@ button.candidate .badge { background: #174a8b; font-size: 1.15rem; }
 .checks li.wrong { border-color: #9a1500; background: #fff0ed; }
 .checks li.wrong b { color: #9a1500; }
 
-fieldset { border: 2px solid #767676; border-radius: .35rem; margin: .6rem 0; }
+fieldset { min-width: 0; border: 2px solid #767676; border-radius: .35rem; margin: .6rem 0; }
 legend { font-weight: bold; padding: 0 .4rem; }
 .choice { display: flex; gap: .6rem; align-items: center; padding: .4rem; font-size: 1.25rem; }
 .choice input { width: 1.3rem; height: 1.3rem; flex: none; margin: 0; }

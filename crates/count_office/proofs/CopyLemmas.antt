@@ -32,7 +32,7 @@ copy_unclosed s page left old new blank full zero (inl made) = inr (inl (ap (λ 
 copy_unclosed s page left old new blank full zero (inr (failure, is, ends, leaves)) = let three : page.status ≡ 3 = ap (λ (p : Page). p.status) is in absurd (omega arith)
 
 -- a failure has status 3
-error_ends : {E : Type 0} (taken : E → Option (List ℕ)) (calls : E → ℕ) (old new : E) (text : List ℕ) (ends : ℕ) → IsErrorTold taken calls old new text 3 ends → ends ≡ 3
+pub error_ends : {E : Type 0} (taken : E → Option (List ℕ)) (calls : E → ℕ) (old new : E) (text : List ℕ) (ends : ℕ) → IsErrorTold taken calls old new text 3 ends → ends ≡ 3
 error_ends taken calls old new text ends (inl all) = all.2
 error_ends taken calls old new text ends (inr part) = part.2
 

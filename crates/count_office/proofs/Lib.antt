@@ -4,3 +4,4 @@ pub mod NewCodesLemmas
 pub mod PieceLemmas
 pub mod ScreenLemmas
 pub mod ServingLemmas
+pub mod MendLemmas

@@ -1,11 +1,13 @@
--- What the order for new codes prints.
-use Rattle.std.proofs.Common.{◌≡◌, ◌+◌, ◌-◌, Bool, [], None, Option, Some, ap, inl, inr, refl, subst, ℕ}
+-- What the orders for new codes and for slips print.
+use Rattle.std.proofs.Common.{◌≡◌, ◌+◌, ◌-◌, Bool, List, [], None, Ok, Option, Some, ap, inl, inr, refl, subst, ℕ}
+use Rattle.codes.specs.Files.{CodeEntry, codes_in}
 use Rattle.codes.specs.Making.{ClerksEntry}
 use Rattle.codes.specs.declared.fault.CodesError.{CodesError}
 use Rattle.codes.specs.declared.fault.CodesError.TheVariants as codes_error
 use Rattle.codes.specs.declared.fault.CodesFault.TheVariants.{NoClerks}
-use Rattle.desk.specs.Pages.{Outputs, Page, Shows, Tells, codes_page}
-use Rattle.count_office.specs.NewCodes.{IsPageOfNewCodes, made_page}
+use Rattle.desk.specs.Forms.{slips_form}
+use Rattle.desk.specs.Pages.{Outputs, Page, Shows, Tells, codes_page, printed}
+use Rattle.count_office.specs.NewCodes.{IsPageOfNewCodes, IsPageOfSlips, made_page}
 use Rattle.count_office.specs.Serving.{untaken}
 
 -- the page that was printed is the order's, if it is one of the pages that the order may print
@@ -31,3 +33,12 @@ made_for named clerks with_office count is counted =
 -- clerks are named, but there are no codes for them
 pub unmade_for : (named : Option ClerksEntry) (clerks : ClerksEntry) (with_office : Bool) (why : CodesError) → Some clerks ≡ named → IsPageOfNewCodes named with_office (untaken why)
 unmade_for named clerks with_office why is = subst (λ (n : Option ClerksEntry). IsPageOfNewCodes n with_office (untaken why)) is (inr (why, refl))
+
+-- a page that was shown is printed, if it is one of the order for slips
+pub slips_told : (old new : Outputs) (status : ℕ) (origin : List ℕ) (page : Page) → Shows old new page status → IsPageOfSlips origin page
+    → Tells old new status (λ _ page. IsPageOfSlips origin page)
+slips_told old new status origin page shown is = record { page = page; cut = shown.0; shown = shown.1; is = is }
+
+-- the slips for the clerks of a file of codes are a page of that order
+pub slips_printed : (origin text page : List ℕ) → ((entries : List CodeEntry) × (codes_in text ≡ Ok entries) × (page ≡ slips_form origin entries)) → IsPageOfSlips origin (printed page)
+slips_printed origin text page found = inl (text, found.0, found.1, ap printed found.2)

@@ -1,17 +1,22 @@
-//! A file of clerks' codes: an existing one, which is read only if its permissions let nobody else read it; or a new one, to
-//! cut into slips.
+//! A file of clerks' codes: an existing one, which is read, or printed as slips to cut out, only if its permissions let nobody else
+//! read it; or a new one.
 
 ghost use Rattle.std.specs.Prelude.{◌≡◌, ◌-◌, ◌^◌, ◌<◌, IfErr, IfOk, None, OnOk, string_bytes};
 ghost use Rattle.codes.specs.Drawing.{IsMadeByDraws, IsUnmadeByDraws};
 ghost use Rattle.codes.specs.Making.{clerks_in, clerks_of};
 ghost use Rattle.desk.specs.Pages.{IsErrorTold, Shows, Tells, outputs_of};
-ghost use Rattle.count_office.specs.NewCodes.{IsFileOfNewCodes, IsPageOfNewCodes, made_page};
+ghost use Rattle.origins.specs.Origins.{origin_text};
+ghost use Rattle.count_office.specs.NewCodes.{IsFileOfNewCodes, IsPageOfNewCodes, IsPageOfSlips, made_page};
 ghost use Rattle.count_office.specs.Serving.{untaken};
 
 use codes::{
     ClerkRange, Codes, CodesError, CodesFault, DrawFailed, RandomSource, make, make_with_office,
 };
-use desk::{Failure, tell_codes_and_office_made, tell_codes_fault, tell_codes_made, tell_failure};
+use desk::{
+    Failure, slips_of, tell_codes_and_office_made, tell_codes_fault, tell_codes_made, tell_failure,
+    tell_slips,
+};
+use origins::Origin;
 use std::alloc::Global;
 use std::fs::{self, File, OpenOptions};
 use std::io::{self, Read, Write};
@@ -101,6 +106,30 @@ pub fn tell_untaken<E: Sink>(why: CodesError, err: &mut E) -> u8
     match why {
         CodesError::Memory => tell_failure(Failure::Office(Fault::Memory), err),
         CodesError::Fault(fault) => tell_codes_fault(fault, err),
+    }
+}
+
+/// Prints a page with a slip for each clerk of a file of codes, or why there is none. Returns 0; 1 for a codes fault; or 3 if an
+/// allocation or an output failed.
+pub fn print_slips<O: Sink, E: Sink>(
+    rt: &HostRuntime,
+    path: &str,
+    address: Origin<'_>,
+    out: &mut O,
+    err: &mut E,
+) -> u8
+    requires out { O.failed out.old < 2 ^ 64 - 1 }
+    requires err { E.failed err.old < 2 ^ 64 - 1 }
+    ensures { let outputs = outputs_of O.taken O.failed E.taken E.failed in Tells (outputs out.old err.old) (outputs out.new err.new) result
+        (λ _ page. IsPageOfSlips (origin_text address.entry) page) }
+{
+    let bytes = match bytes_of(rt, path) {
+        Ok(bytes) => bytes,
+        Err(fault) => return tell_codes_fault(fault, err),
+    };
+    match slips_of(rt.alloc(), address, bytes.as_slice()) {
+        Ok(page) => tell_slips(page.as_str(), out, err),
+        Err(why) => tell_untaken(why, err),
     }
 }
 

@@ -53,7 +53,7 @@ pub fn copy<S: Alter, O: Sink, E: Sink>(
 }
 
 /// Returns the failure to print if a copy can't be made. An out-of-memory error is reported as such.
-fn failure_of(error: sqlite::Error) -> Failure {
+pub fn failure_of(error: sqlite::Error) -> Failure {
     match fault_of(error) {
         Fault::Memory => Failure::Office(Fault::Memory),
         _ => Failure::CopyFailed,
@@ -62,7 +62,7 @@ fn failure_of(error: sqlite::Error) -> Failure {
 
 /// Returns why the copy must not be written to the files that were made for it; `None` if it may be. Either another program has
 /// since made an office in them, which is left there; or the files can't be examined.
-fn why_not_begun(rt: &HostRuntime, new_file: &NewFile) -> Option<Failure> {
+pub fn why_not_begun(rt: &HostRuntime, new_file: &NewFile) -> Option<Failure> {
     match new_file.hold_none(rt) {
         Ok(true) => None,
         Ok(false) => Some(Failure::CopyTaken),
@@ -75,7 +75,7 @@ fn why_not_begun(rt: &HostRuntime, new_file: &NewFile) -> Option<Failure> {
 
 /// Closes the files that were made for a copy, depending on what is known about their contents. If no copy is reported, removes
 /// them while they are still locked. With status 0, the database file alone is the copy.
-fn finish<D: Disk + Drop, E: Sink>(
+pub fn finish<D: Disk + Drop, E: Sink>(
     rt: &HostRuntime,
     new_file: &NewFile,
     made: Connection<FileStore<D>>,

@@ -23,6 +23,8 @@ ghost use Rattle.tables.specs.Contents.{RestsAt};
 ghost use Rattle.tables.specs.Reading.{OnlyReads};
 ghost use Rattle.store.specs.Openings.{IsLeftAt};
 ghost use Rattle.desk.specs.Journals.{IsJournalTold, IsToldElsewhere};
+ghost use Rattle.desk.specs.Mends.{IsMendPage};
+ghost use Rattle.desk.specs.declared.orders.MendOrder.{MendOrder};
 ghost use Rattle.desk.specs.Pages.{IsErrorTold, Tells, outputs_of};
 ghost use Rattle.connections.specs.Streams.{stream_of};
 ghost use Rattle.count_office.specs.Done.{IsDone};
@@ -47,15 +49,16 @@ mod host;
 mod localhost;
 mod public;
 mod serving;
-// what else is done while the office is served: copies, the journal, and checks of its files
+// what else is done while the office is served: copies, the journal, a new office from it, and checks of its files
 mod copies;
 mod file_watch;
+mod mends;
 mod new_file;
 mod served_file;
 // the two outputs
 mod screen;
 
-use codes_file::{NewCodes, make_codes_file};
+use codes_file::{NewCodes, make_codes_file, print_slips};
 use copies::copy;
 use desk::perform::perform;
 use desk::{
@@ -63,6 +66,7 @@ use desk::{
 };
 use file_lock::FileLock;
 use host::Host;
+use mends::mend;
 use order_files::{LocalFolder, OrderFiles};
 use order_run::{OrderRun, perform_with_retries};
 use path_state::PathState;
@@ -148,6 +152,9 @@ fn dispatch_order<H: Host, S: Alter, O: Sink, E: Sink>(
     ensures journals { order.now ≡ Order.Journal → (let outputs = outputs_of O.taken O.failed E.taken E.failed in Tells (outputs out.old err.old) (outputs out.new err.new) result.0
         (λ _ page. HasCleanDisk (state S.Store result.1) → ((db : Database) → RestsAt db (state S.Store conn) → (s : OfficeState) → IsLeftAt s db → IsJournalTold s page)
         × IsToldElsewhere page (state S.Store conn) (state S.Store result.1))) }
+    ensures mends { (asked : MendOrder) → order.now ≡ Order.Mend asked → (let outputs = outputs_of O.taken O.failed E.taken E.failed in
+        Tells (outputs out.old err.old) (outputs out.new err.new) result.0 (λ _ page. HasCleanDisk (state S.Store result.1) → (db : Database) → RestsAt db (state S.Store conn)
+        → (s : OfficeState) → IsLeftAt s db → IsMendPage s asked page)) }
     ensures serves { (serving : Serving) → order.now ≡ Order.Serve serving.port serving.connections serving.origin serving.codes serving.public
         → (out.new ≡ out.old) × ServesOrder (IsErrorTold E.taken E.failed err.old err.new) (err.new ≡ err.old) result.0 serving (H.codes_at host.old) (H.file host.old)
         (stream_of H.Sockets.Stream.held H.Sockets.Stream.taken H.Sockets.Stream.failed) (state S.Store) (H.known host.old) (H.known host.new) conn result.1 }
@@ -179,6 +186,7 @@ fn dispatch_order<H: Host, S: Alter, O: Sink, E: Sink>(
         }
         Order::Copy { path } => copy(rt, conn, path, out, err),
         Order::Journal => journal(rt, conn, out, err),
+        Order::Mend(asked) => mend(rt, conn, asked, out, err),
         Order::Codes {
             path,
             clerks,
@@ -191,6 +199,7 @@ fn dispatch_order<H: Host, S: Alter, O: Sink, E: Sink>(
             };
             (make_codes_file(rt, asked, out, err), conn)
         }
+        Order::Slips { path, address } => (print_slips(rt, path, *address, out, err), conn),
     }
 }
 
@@ -261,6 +270,8 @@ fn follow_words<O: Sink, E: Sink>(rt: &HostRuntime, words: &[&str], out: &mut O,
             };
             make_codes_file(rt, asked, out, err)
         }
+        // Nor does printing slips.
+        Ok(Order::Slips { path, address }) => print_slips(rt, path, address, out, err),
         Ok(order) => {
             let request = OrderRun {
                 rt: &*rt,

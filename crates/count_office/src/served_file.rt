@@ -1,5 +1,5 @@
-//! What an order for a served office needs from this machine in addition to the office: the file of a copy, and memory for
-//! replaying a journal.
+//! What an order for a served office needs from this machine in addition to the office: the file of a copy or of a new office, and
+//! memory for replaying a journal.
 
 ghost use Rattle.std.specs.Prelude.{◌≡◌, ◌-◌, ◌<◌, IfOk, None};
 ghost use Rattle.std.specs.Path.{path_buf_bytes, path_bytes};
@@ -7,7 +7,8 @@ ghost use Rattle.count_office.specs.CopyPaths.{copy_path, folder_of};
 
 use crate::copies::copy_served;
 use crate::file_watch::FileWatch;
-use desk::{Failure, journal_open, tell_failure};
+use crate::mends::mend_served;
+use desk::{Failure, MendOrder, journal_open, tell_failure};
 use office::Office;
 use server::{Destination, ServedFile};
 use sqlite::{Alter, Connection};
@@ -74,6 +75,20 @@ impl ServedFile for LocalFile<'_> {
                 status
             }
             Err(_) => tell_failure(Failure::Office(Fault::Memory), err),
+        }
+    }
+
+    fn mend<S: Alter, O: Sink, E: Sink>(
+        &self,
+        office: &mut Office<S>,
+        asked: &MendOrder<'_>,
+        to: Destination<'_>,
+        out: &mut O,
+        err: &mut E,
+    ) -> u8 {
+        match path_of_copy(self.rt.alloc(), self.file_watch.database(), to) {
+            Ok(path) => mend_served(self.rt, office, asked, path.as_str(), out, err),
+            Err(AllocError) => tell_failure(Failure::Office(Fault::Memory), err),
         }
     }
 }

@@ -1,6 +1,7 @@
 pub mod NumbersRead
 pub mod FrontsRead
 pub mod OrdersNamed
+mod OrderNames
 pub mod OrderTables
 pub mod PageLemmas
 pub mod CauseLemmas
@@ -21,3 +22,5 @@ pub mod PaperLemmas
 mod LinesRead
 mod KeysRead
 mod OverviewLemmas
+mod FormLemmas
+mod MendLemmas

@@ -1,5 +1,6 @@
 -- What is printed for a question is the page that the specification defines.
 use Rattle.std.proofs.Common.{◌≡◌, ◌⊎◌, ◌∙◌, ◌++◌, inl, inr, Bool, List, [], ◌∷◌, map, Result, Ok, Err, IfOk, IfErr, refl, sym, ap}
+use Rattle.std.specs.Prelude.{OnErr}
 use Rattle.std.specs.List.{flat_map}
 use Rattle.clap.specs.Words.{Text}
 use Rattle.sqlite.specs.State.{State}
@@ -39,3 +40,16 @@ pub stop_found : {X Y : Type 0} (view : Y → X) (shown : X → Page) (s : Offic
     → page ≡ page_stopped stop → IsFound s shown told page closed old st
 stop_found view shown s told (Refused why) page closed old st read cause is = inl (is ∙ sym (ap (page_found shown) read.0), read.1)
 stop_found view shown s told (Fault fault) page closed old st read cause is = inr (fault, is, (cause, read))
+
+-- the same for the result of a call, whose type also says what it would have found
+pub stop_found_of : {X Y : Type 0} (found : Result Y ReadError) (view : Y → X) (shown : X → Page) (s : OfficeState) (told : Result X Reason) (stop : ReadError) (page : Page)
+    (closed : Bool) (old st : State) → Read view s told (Err stop) closed st → ReadFailsBy old st stop
+    → page ≡ page_stopped stop → IsFound s shown told page closed old st
+stop_found_of found view shown s told stop page closed old st = stop_found view shown s told stop page closed old st
+
+-- the form made from what was found is printed, or that an allocation for it failed
+pub made_found : {X Y O E : Type 0} (view : Y → X) (shown : X → Page) (printed_of : O → Page) (s : OfficeState) (told : Result X Reason) (y : Y) (r : Result O E) (page : Page)
+    (closed : Bool) (old st : State) → Read view s told (Ok y) closed st → IfOk r (λ o. printed_of o ≡ shown (view y)) → IfOk r (λ o. page ≡ printed_of o)
+    → OnErr r (page ≡ failed (Office Memory)) → IsFound s shown told page closed old st
+made_found view shown printed_of s told y (Ok o) page closed old st read form is failed = inl (is ∙ form ∙ sym (ap (page_found shown) read.0), read.1)
+made_found view shown printed_of s told y (Err e) page closed old st read form is failed = inr (Memory, failed, (inl refl, inl (record { memory = refl; open_at = read.1 })))

@@ -1,17 +1,18 @@
 -- Texts that are written one after another, and how much of a page was written.
 use Rattle.std.proofs.Common.{◌≡◌, ◌≢◌, ◌∙◌, ◌+◌, ◌<◌, inl, inr, ℕ, Bool, true, false, List, [], ◌∷◌, ◌++◌, length}
-use Rattle.std.proofs.Common.{take, drop, get_or, Option, Some, None, Result, Ok, Err, refl, sym, ap, subst, eqb-true, ne_eqb}
+use Rattle.std.proofs.Common.{take, drop, get_or, Option, Some, None, Result, Ok, Err, refl, sym, ap, arith, subst, eqb-true, ne_eqb}
 use Rattle.std.specs.Prelude.{◌==◌, IsErr}
 use Rattle.std.specs.Io.KnownBytes.{Appends}
 use Rattle.std.specs.List.{flat_map}
 use Rattle.std.proofs.KnownBytes.{Appends-nil, Appends-trans}
+use Rattle.std.proofs.lemmas.Bool.{true≢false}
 use Rattle.std.proofs.lemmas.Grind.{flat_map-append}
 use Rattle.std.proofs.lemmas.List.{append-nil, append_assoc, take_more, take-append-drop}
 use Rattle.clap.specs.Words.{Text}
 use Rattle.streams.proofs.Beginnings.{AppendsBeginning-front, AppendsBeginning-behind}
 use Rattle.desk.specs.declared.lines.Failure.TheVariants.{Output}
 use Rattle.desk.specs.Pages.{Cut, uncut, cut_behind, cut_error, IsErrorTold, IsOutputBroken, IsPut, IsShown, IsWhole, Outputs}
-use Rattle.desk.specs.Pages.{Page, Shows, after_prefix, below, cut_below, empty_page, failed, fronted, line_front, outputs_of, printed, combined_status}
+use Rattle.desk.specs.Pages.{Page, Shows, after_prefix, below, cut_below, empty_page, failed, fronted, line_front, outputs_of, printed, combined_status, unmended}
 
 -- the pieces of another element are appended
 pieces_more : {X : Type 0} (f : X → Text) (xs : List X) (i : ℕ) (d : X) → i < length xs → flat_map f (take (i + 1) xs) ≡ flat_map f (take i xs) ++ f (get_or xs i d)
@@ -200,6 +201,17 @@ pub fronted_err : (line : Option ℕ) (page : Page) (byte : ℕ) (bytes : Text) 
 fronted_err None page byte bytes is = refl
 fronted_err (Some number) page byte bytes is = ap (after_prefix (line_front (Some number))) is ∙ ap (λ text. line_front (Some number) ++ text) (sym is)
 
+-- an empty text is printed without the line number, and any other after it
+pub empty_fronted : (line : Option ℕ) (text : Text) → (length text == 0) ≡ true → text ≡ (fronted line (unmended text)).err
+empty_fronted None text none = refl
+empty_fronted (Some number) [] none = refl
+empty_fronted (Some number) (byte ∷ bytes) none = absurd (omega (arith, eqb-true (length (byte ∷ bytes)) 0 none))
+
+pub text_fronted : (line : Option ℕ) (text : Text) → (length text == 0) ≡ false → line_front line ++ text ≡ (fronted line (unmended text)).err
+text_fronted None text some = refl
+text_fronted (Some number) [] some = absurd (true≢false some)
+text_fronted (Some number) (byte ∷ bytes) some = refl
+
 -- a text for the output is printed without the line number
 pub printed_shown : (line : Option ℕ) (old new : Outputs) (text : Text) (status : ℕ) → Shows old new (printed text) status → Shows old new (fronted line (printed text)) status
 printed_shown None old new text status shown = shown
@@ -213,6 +225,12 @@ module _ {O E : Type 0} (taken : O → Option (List ℕ)) (failed_out : O → �
   front_shown line out old new page status byte bytes none some told =
       error_shown taken failed_out taken_err failed_err out old new (fronted line page) status (fronted_out line page ∙ none)
       (rw (fronted_err line page byte bytes some, fronted_status line page) told)
+
+  -- a text, which may be empty, was printed to the error output as it stands on the page for the line
+  pub fronted_shown : (line : Option ℕ) (out : O) (old new : E) (page : Page) (status : ℕ) → page.out ≡ [] → IsErrorTold taken_err failed_err old new (fronted line page).err page.status status
+      → Shows (outputs_of taken failed_out taken_err failed_err out old) (outputs_of taken failed_out taken_err failed_err out new) (fronted line page) status
+  fronted_shown line out old new page status none told =
+      error_shown taken failed_out taken_err failed_err out old new (fronted line page) status (fronted_out line page ∙ none) (rw (fronted_status line page) told)
 
   -- a text was printed to the output, and a line to the error output, after the line number
   pub both_fronted : {X F : Type 0} {x : X} (line : Option ℕ) (old new : O) (err told : E) (page : Page) (status byte : ℕ) (bytes : Text)

@@ -40,6 +40,7 @@ refusal_is_told k kinds words_fault.Verdict tells among = absurd tells
 refusal_is_told k kinds words_fault.Origin tells among = absurd tells
 refusal_is_told k kinds words_fault.Digest tells among = absurd tells
 refusal_is_told k kinds words_fault.TitleAlone tells among = absurd tells
+refusal_is_told k kinds words_fault.Form tells among = absurd tells
 refusal_is_told k kinds (words_fault.Words text status) tells among = (refusal_gives_status k kinds status tells.1 tells.0 among, tells.2)
 
 -- the same holds, given the kind that was read from the error
@@ -53,6 +54,7 @@ refusal_means_no_none k meant words_fault.Verdict tells = absurd tells
 refusal_means_no_none k meant words_fault.Origin tells = absurd tells
 refusal_means_no_none k meant words_fault.Digest tells = absurd tells
 refusal_means_no_none k meant words_fault.TitleAlone tells = absurd tells
+refusal_means_no_none k meant words_fault.Form tells = absurd tells
 refusal_means_no_none k meant (words_fault.Words text status) tells = tt
 
 -- if the words ask for the version, the version is printed

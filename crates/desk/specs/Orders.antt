@@ -1,5 +1,5 @@
 -- The orders of the program: the name and words of each, and what it means for given values of those words.
-use Rattle.std.specs.Prelude.{ℕ, Bool, true, false, List, [], ◌∷◌, ◌++◌, Option, Some, None, codes, map, option_map, string_bytes}
+use Rattle.std.specs.Prelude.{ℕ, Bool, true, false, List, [], ◌∷◌, ◌++◌, Option, Some, None, codes, map, option_map, string_bytes, bytes_eq, if◌then◌else◌}
 use Rattle.clap.specs.Words.{Text}
 use Rattle.register.specs.declared.command.Command.{Command}
 use Rattle.register.specs.declared.command.Command.TheVariants as command
@@ -12,6 +12,7 @@ use Rattle.office.specs.declared.sheets.WardText.{WardText}
 use Rattle.office.specs.declared.sheets.WardText.TheVariants as ward_text
 use Rattle.origins.specs.Origins.{origin_text}
 use Rattle.keyfile.specs.Digests.{asked_digest}
+use Rattle.desk.specs.Numbers.{number_in}
 use Rattle.desk.specs.Verdicts.{Judgement, judgement_given}
 use Rattle.desk.specs.declared.order_entry.Kind.{Kind}
 use Rattle.desk.specs.declared.order_entry.Kind.TheVariants as kind
@@ -19,6 +20,8 @@ use Rattle.desk.specs.declared.order_entry.Word.{Word}
 use Rattle.desk.specs.declared.order_entry.Entry.{Entry}
 use Rattle.desk.specs.declared.orders.Errand.{Errand}
 use Rattle.desk.specs.declared.orders.Errand.TheVariants as errand
+use Rattle.desk.specs.declared.orders.Form.{Form}
+use Rattle.desk.specs.declared.orders.Form.TheVariants as form
 use Rattle.desk.specs.declared.orders.Question.{Question}
 use Rattle.desk.specs.declared.orders.Question.TheVariants as question
 use Rattle.desk.specs.declared.orders.Order.{Order}
@@ -75,8 +78,8 @@ abbrev pub id : WordEntry
 id = record { name = codes "id"; kind = kind.Id }
 
 -- an origin after `--` and the word's name, optional
-abbrev pub origin : WordEntry
-origin = record { name = codes "origin"; kind = kind.Origin }
+abbrev pub origin : Text → WordEntry
+origin name = record { name = name; kind = kind.Origin }
 
 -- the path of a codes file after `--` and the word's name, optional
 abbrev pub codes_file : WordEntry
@@ -97,6 +100,10 @@ papers = record { name = codes "papers"; kind = kind.Papers }
 -- zero or more words after the others, each of which is any text
 abbrev pub texts : Text → WordEntry
 texts name = record { name = name; kind = kind.Texts }
+
+-- zero or more texts, each after `--` and the word's name
+abbrev pub options : Text → WordEntry
+options name = record { name = name; kind = kind.Options }
 
 -- a flag: `--` and the word's name, optional
 abbrev pub flag : Text → WordEntry
@@ -156,7 +163,8 @@ by_clerk clerk id asked = record { actor = clerk; id = id; asked = asked }
 
 -- ---- what an order means
 
--- what the words request; or nothing, because a verdict, an origin or a digest is invalid, or a title is given although nothing is shown in public
+-- what the words request; or nothing, because a verdict, an origin or a digest is invalid, a title is given although nothing is shown in public, or the words after
+-- `forms` name no form
 pub data Meant : Type 0 where
   make : Meant
   migrate : Meant
@@ -175,12 +183,15 @@ pub data Meant : Type 0 where
   replay : Text → Bool → Meant
   copy : Text → Meant
   journal : Meant
+  mend : Text → List Text → List Text → Meant
   make_codes : Text → Text → Bool → Meant
+  print_slips : Text → Text → Meant
   serve : ℕ → Option ℕ → Option Text → Option Text → Option Text → Meant
   no_verdict : Meant
   no_origin : Meant
   no_digest : Meant
   title_alone : Meant
+  no_form : Meant
 
 -- the meaning of printing one of a ward's texts; the title of a page is represented as text
 abbrev pub told_text : ℕ → WardText → Meant
@@ -209,7 +220,9 @@ told (order.Perform (task.InOffice (job.Run errand))) = told_errand errand
 told (order.Perform (task.InOffice (job.Replay file keep_going))) = replay file.now keep_going
 told (order.Copy path) = copy path.now
 told order.Journal = journal
+told (order.Mend m) = mend m.path.now (map string_bytes m.without.items) (map string_bytes m.instead.items)
 told (order.Codes path clerks with_office) = make_codes path.now clerks.now with_office
+told (order.Slips path address) = print_slips path.now (origin_text address)
 told (order.Serve port connections origin file public) =
     serve port connections (option_map origin_text origin) (option_map (λ path. path.now) file) (option_map (λ title. title.now) public)
 
@@ -235,6 +248,7 @@ WordValue kind.Title = Text
 WordValue kind.Digest = Option (List ℕ)
 WordValue kind.Papers = Option ℕ
 WordValue kind.Texts = List Text
+WordValue kind.Options = List Text
 WordValue kind.Flag = Bool
 
 -- a function of the values of the given words, in order
@@ -285,6 +299,25 @@ abbrev pub seal : ℕ → Text → Option ℕ → Meant
 seal ward id None = send (by_office id (ward_to_seal ward))
 seal ward id (Some papers) = seal_expected ward papers id
 
+-- the form of a ward with this name, if there is one
+abbrev pub ward_form_in : Text → Option Form
+ward_form_in name =
+    if bytes_eq name (codes "covers") then Some form.Covers else (
+    if bytes_eq name (codes "adjudication") then Some form.Adjudication else (
+    if bytes_eq name (codes "lots") then Some form.Lots else (
+    if bytes_eq name (codes "declaration") then Some form.Declaration else None)))
+
+-- the office prints the form of the ward with this number; or no form is meant, if either is missing
+abbrev pub form_of_ward : Option Form → Option ℕ → Meant
+form_of_ward None ward = no_form
+form_of_ward (Some form) None = no_form
+form_of_ward (Some form) (Some ward) = ask (question.Form form ward)
+
+-- the form with this name, given the word after the name and the optional address: slips of a file of codes need an address, and a form of a ward has none
+abbrev pub form_meant : Text → Text → Option Text → Meant
+form_meant name word None = form_of_ward (ward_form_in name) (number_in word)
+form_meant name word (Some address) = if bytes_eq name (codes "slips") then print_slips word address else no_form
+
 -- the table of orders, in the order in which an election uses them
 unfoldable pub orders : List OrderEntry
 orders =
@@ -310,7 +343,7 @@ orders =
     ∷ takes (codes "next") (number (codes "WARD") ∷ []) tell_next
     ∷ takes (codes "sheet") (number (codes "WARD") ∷ []) (λ ward. print ward ward_text.Sheet)
     ∷ takes (codes "result") (number (codes "WARD") ∷ []) (λ ward. print ward ward_text.Declaration)
-    ∷ takes (codes "serve") (port (codes "PORT") ∷ connections (codes "CONNECTIONS") ∷ origin ∷ codes_file ∷ flag (codes "public") ∷ title ∷ []) serve_shown
+    ∷ takes (codes "serve") (port (codes "PORT") ∷ connections (codes "CONNECTIONS") ∷ origin (codes "origin") ∷ codes_file ∷ flag (codes "public") ∷ title ∷ []) serve_shown
     ∷ takes (codes "migrate") [] migrate
     ∷ takes (codes "wards") [] (ask question.Wards)
     ∷ takes (codes "batches") (number (codes "WARD") ∷ []) (λ ward. ask (question.Batches ward))
@@ -321,7 +354,9 @@ orders =
     ∷ takes (codes "journal") [] journal
     ∷ takes (codes "replay") (text (codes "FILE") ∷ flag (codes "keep-going") ∷ []) replay
     ∷ takes (codes "copy") (text (codes "NEW") ∷ []) copy
+    ∷ takes (codes "mend") (text (codes "NEW") ∷ options (codes "without") ∷ options (codes "with") ∷ []) mend
     ∷ takes (codes "codes") (text (codes "FILE") ∷ text (codes "CLERKS") ∷ flag (codes "office") ∷ []) make_codes
+    ∷ takes (codes "forms") (text (codes "FORM") ∷ text (codes "SOURCE") ∷ origin (codes "address") ∷ []) form_meant
     ∷ takes (codes "ballots") (number (codes "WARD") ∷ []) (λ ward. print ward ward_text.Ballots)
     ∷ takes (codes "page") (number (codes "WARD") ∷ title ∷ []) print_page
     ∷ takes (codes "table") (number (codes "WARD") ∷ []) (λ ward. print ward ward_text.Table)

@@ -11,10 +11,14 @@ use Rattle.register.specs.declared.polls.Judgement.TheVariants.{Valid, Rejected,
 use Rattle.store.specs.Overviews.{BatchView, DifferencesView, DoubtfulPapersView, DoubtfulView, PaperView, PapersView, WardView}
 use Rattle.store.specs.declared.overviews.batches.BatchStanding.{BatchStanding}
 use Rattle.store.specs.declared.overviews.batches.BatchStanding.TheVariants.{Taken, Differing, Waiting}
+use Rattle.office.specs.Reads.{next_answer}
 use Rattle.office.specs.Overviews.{batches_answer, differences_answer, doubtful_answer, papers_answer, receipts_answer, wards_answer}
 use Rattle.desk.specs.CandidateNames.{name_in, names_of}
+use Rattle.desk.specs.Forms.{adjudication_form, covers_form, declaration_form, lots_form}
 use Rattle.desk.specs.Pages.{Page, line, page_found, printed, replied}
 use Rattle.desk.specs.WardStatus.{phase_word}
+use Rattle.desk.specs.declared.orders.Form.{Form}
+use Rattle.desk.specs.declared.orders.Form.TheVariants as form
 use Rattle.desk.specs.declared.orders.Question.{Question}
 use Rattle.desk.specs.declared.orders.Question.TheVariants as question
 
@@ -141,6 +145,13 @@ paper_lines v = lines_of (paper_line (names_of v.candidates)) v.papers
 unfoldable pub doubtful_lines : DoubtfulPapersView → Text
 doubtful_lines v = lines_of (doubtful_line (names_of v.candidates)) v.papers
 
+-- the page with a form of a ward, or why there is none
+abbrev pub page_formed : OfficeState → Form → ℕ → Page
+page_formed s form.Covers ward = page_found covers_form (batches_answer s ward)
+page_formed s form.Adjudication ward = page_found (adjudication_form ward) (doubtful_answer s ward)
+page_formed s form.Lots ward = page_found (lots_form ward) (next_answer s ward)
+page_formed s form.Declaration ward = page_found (declaration_form ward) (wards_answer s)
+
 -- the page that answers a question, or says why there is no answer
 abbrev pub page_asked : OfficeState → Question → Page
 page_asked s question.Wards = page_found (λ wards. printed (lines_of ward_line wards)) (wards_answer s)
@@ -148,4 +159,5 @@ page_asked s (question.Batches ward) = page_found (λ batches. printed (lines_of
 page_asked s (question.Doubtful ward) = page_found (λ papers. printed (doubtful_lines papers)) (doubtful_answer s ward)
 page_asked s (question.Differences batch) = page_found (λ differences. replied (differences_line differences)) (differences_answer s batch)
 page_asked s (question.Papers batch) = page_found (λ papers. printed (paper_lines papers)) (papers_answer s batch)
+page_asked s (question.Form form ward) = page_formed s form ward
 page_asked s (question.Receipts actor) = page_found (λ receipts. printed (lines_of receipt_line receipts)) (receipts_answer s actor)

@@ -25,13 +25,15 @@ use Rattle.store.specs.declared.copying.CopyFault.TheVariants as uncopied
 use Rattle.store.specs.declared.migration.Migrated.{Migrated}
 use Rattle.store.specs.declared.migration.Migrated.TheVariants.{Done, Already}
 use Rattle.desk.specs.Scripts.{line_flaw_text}
-use Rattle.desk.specs.Words.{bad_digest, bad_origin, bad_title}
+use Rattle.desk.specs.Words.{bad_digest, bad_form, bad_origin, bad_title}
 use Rattle.desk.specs.declared.scripts.ScriptFault.{ScriptFault}
 use Rattle.desk.specs.declared.scripts.ScriptFault.TheVariants as script
 use Rattle.desk.specs.declared.lines.Failure.{Failure}
 use Rattle.desk.specs.declared.lines.Failure.TheVariants.{Office, Output, CopyTaken, CopyFailed, BeingServed, FileGone}
 use Rattle.desk.specs.declared.words.WordsFault.{WordsFault}
 use Rattle.desk.specs.declared.words.WordsFault.TheVariants as words
+use Rattle.desk.specs.declared.lines.NoForm.{NoForm}
+use Rattle.desk.specs.declared.lines.NoForm.TheVariants as no_form
 use Rattle.desk.specs.declared.lines.LineOutcome.{LineOutcome}
 use Rattle.desk.specs.declared.lines.LineOutcome.TheVariants as outcome
 
@@ -151,6 +153,19 @@ unsealed given_out expected = record {
   status = 1;
 }
 
+-- the reason why there is no form, in words
+abbrev pub no_form_text : NoForm → Text
+no_form_text no_form.NoLot = codes "no lot is due"
+no_form_text no_form.Undeclared = codes "the ward is not declared"
+
+-- the page that says that there is no form
+abbrev pub unformed : NoForm → Page
+unformed why = record { out = []; err = joined (codes "no form: " ∷ no_form_text why ∷ codes "\n" ∷ []); status = 1 }
+
+-- the page that says why no new office was made from the journal
+abbrev pub unmended : Text → Page
+unmended text = record { out = []; err = text; status = 1 }
+
 -- the note that a request was accepted earlier, and that its content had no effect this time
 abbrev pub note_line : Text → Text
 note_line id = joined (codes "note: " ∷ id ∷ codes " was kept before with other words; nothing was changed\n" ∷ [])
@@ -213,6 +228,8 @@ page_of (outcome.Failed fault) = failed (Office fault)
 page_of (outcome.Uncopied why) = failed (failure_of why)
 page_of outcome.Unjournalled = unjournalled
 page_of (outcome.Unsealed given_out expected) = unsealed given_out expected
+page_of (outcome.Unformed why) = unformed why
+page_of (outcome.Unmended text) = unmended (string_bytes text)
 
 -- the page that says why words aren't an order: help is printed to the output, and what is wrong with the words to the error output
 abbrev pub words_page : WordsFault → Page
@@ -220,6 +237,7 @@ words_page words.Memory = failed (Office fault.Memory)
 words_page words.Origin = record { out = []; err = bad_origin; status = 2 }
 words_page words.Digest = record { out = []; err = bad_digest; status = 2 }
 words_page words.TitleAlone = record { out = []; err = bad_title; status = 2 }
+words_page words.Form = record { out = []; err = bad_form; status = 2 }
 words_page words.Verdict = record { out = []; err = codes "bad verdict word\n"; status = 2 }
 words_page (words.Words text status) = if status == 0 then printed (string_bytes text) else record { out = []; err = string_bytes text; status = status }
 

@@ -5,8 +5,8 @@ use Rattle.std.specs.List.{list_all, list_any}
 use Rattle.std.specs.Str.{is_utf8}
 use Rattle.clap.specs.Words.{Text, subcommand_of}
 use Rattle.desk.specs.Folders.{File, Folder, HoldsText, IsFileAt}
-use Rattle.desk.specs.Orders.{no_digest, no_origin, no_verdict, title_alone, told}
-use Rattle.desk.specs.Words.{IsToldOf, bad_digest, bad_origin, bad_title, meaning, office_words, status_of_kind, wrong_with}
+use Rattle.desk.specs.Orders.{no_digest, no_form, no_origin, no_verdict, title_alone, told}
+use Rattle.desk.specs.Words.{IsToldOf, bad_digest, bad_form, bad_origin, bad_title, meaning, office_words, status_of_kind, wrong_with}
 use Rattle.desk.specs.declared.orders.Errand.{Errand}
 use Rattle.desk.specs.declared.orders.Errand.TheVariants as errand
 use Rattle.desk.specs.declared.orders.Order.{Order}
@@ -180,17 +180,19 @@ line_flaw_text flaw.Verdict = codes "bad verdict word\n"
 line_flaw_text flaw.Origin = bad_origin
 line_flaw_text flaw.Digest = bad_digest
 line_flaw_text flaw.TitleAlone = bad_title
+line_flaw_text flaw.Form = bad_form
 line_flaw_text (flaw.Words text) = string_bytes text
 line_flaw_text flaw.Elsewhere = codes "error: this order can't be used in a script\n"
 
--- what is wrong with the words of a line. Either `clap` accepts them, but a verdict, an origin or a digest is invalid, or a title is given although nothing is shown
--- in public. Or it is what `clap` reports for them. Or the order, such as one that asks for help, isn't allowed in a script.
+-- what is wrong with the words of a line. Either `clap` accepts them, but a verdict, an origin or a digest is invalid, a title is given although nothing is shown
+-- in public, or the words after `forms` name no form. Or it is what `clap` reports for them. Or the order, such as one that asks for help, isn't allowed in a script.
 abbrev pub IsFlawOfWords : List Text → LineFlaw → Type 0
 IsFlawOfWords words (flaw.NoWords why) = ⊥
 IsFlawOfWords words flaw.Verdict = (wrong_with words ≡ []) × (meaning (subcommand_of office_words words) ≡ Some no_verdict)
 IsFlawOfWords words flaw.Origin = (wrong_with words ≡ []) × (meaning (subcommand_of office_words words) ≡ Some no_origin)
 IsFlawOfWords words flaw.Digest = (wrong_with words ≡ []) × (meaning (subcommand_of office_words words) ≡ Some no_digest)
 IsFlawOfWords words flaw.TitleAlone = (wrong_with words ≡ []) × (meaning (subcommand_of office_words words) ≡ Some title_alone)
+IsFlawOfWords words flaw.Form = (wrong_with words ≡ []) × (meaning (subcommand_of office_words words) ≡ Some no_form)
 IsFlawOfWords words (flaw.Words text) = (status : ℕ) × (status ≢ 0) × IsToldOf (wrong_with words) (words_fault.Words text status)
 IsFlawOfWords words flaw.Elsewhere =
     (list_any (λ kind. status_of_kind kind == 0) (wrong_with words) ≡ true)

@@ -15,7 +15,7 @@ use Rattle.desk.specs.declared.words.WordsFault.TheVariants as words_fault
 use Rattle.desk.specs.declared.order_entry.Kind.{Kind}
 use Rattle.desk.specs.declared.order_entry.Kind.TheVariants as kind
 use Rattle.desk.specs.Numbers.{number_in}
-use Rattle.desk.specs.Orders.{Meant, OfWords, OrderWords, WordValue, WordEntry, asked_by, by_office, no_digest, no_origin, no_verdict, orders, public_of, send, title_alone}
+use Rattle.desk.specs.Orders.{Meant, OfWords, OrderWords, WordValue, WordEntry, asked_by, by_office, no_digest, no_form, no_origin, no_verdict, orders, public_of, send, title_alone}
 use Rattle.desk.specs.Verdicts.{Judgement, judgement_in}
 use Rattle.register.specs.declared.command.Command.{Command}
 use Rattle.origins.specs.Origins.{origin_in}
@@ -59,6 +59,10 @@ number_option_rule numbers name = record (new_rule name) { long = Some name; val
 abbrev pub texts_rule : Text → Rule
 texts_rule name = record (new_rule name) { action = Some Append }
 
+-- zero or more values, each after `--` and the word's name
+abbrev pub options_rule : Text → Rule
+options_rule name = record (new_rule name) { long = Some name; value_names = 1; action = Some Append }
+
 -- `--` and the word's name, without a value
 abbrev pub flag_rule : Text → Rule
 flag_rule name = record (new_rule name) { long = Some name; action = Some SetTrue }
@@ -78,6 +82,7 @@ rule_of_kind kind.Title = option_rule
 rule_of_kind kind.Digest = option_rule
 rule_of_kind kind.Papers = number_option_rule any_number
 rule_of_kind kind.Texts = texts_rule
+rule_of_kind kind.Options = options_rule
 rule_of_kind kind.Flag = flag_rule
 
 -- a command, with the given words added
@@ -169,6 +174,7 @@ with_value kind.Title rows name means = means (text_at name rows)
 with_value kind.Digest rows name means = digested_by (digest_at name rows) means
 with_value kind.Papers rows name means = means (number_found name rows)
 with_value kind.Texts rows name means = means (texts_at name rows)
+with_value kind.Options rows name means = means (texts_at name rows)
 with_value kind.Flag rows name means = means (flag_at name rows)
 
 -- what the matched values of the given words mean
@@ -197,6 +203,11 @@ is_order_name name = list_any (λ e. bytes_eq name e.typed.name) orders
 abbrev pub is_command_name : Text → Bool
 is_command_name name = list_any (λ e. e.is_command && bytes_eq name e.typed.name) orders
 
+-- whether the name is that of an order that asks a question about the office
+abbrev pub is_question_name : Text → Bool
+is_question_name name =
+    list_any (bytes_eq name) (codes "wards" ∷ codes "batches" ∷ codes "doubtful" ∷ codes "differences" ∷ codes "papers" ∷ codes "receipts" ∷ [])
+
 -- whether the matches name an order
 abbrev pub names_order : Option (Text × List Row) → Bool
 names_order None = false
@@ -215,22 +226,25 @@ status_of_kind DisplayVersion = 0
 status_of_kind _ = 2
 
 -- what is printed for words, given what is wrong with them: a nonempty text, with the corresponding status. If nothing is wrong, it says that a verdict, an origin
--- or a digest is invalid, or that a title is given although nothing is shown in public. Or it says that an allocation failed.
+-- or a digest is invalid, that a title is given although nothing is shown in public, or that the words after `forms` name no form. Or it says that an allocation failed.
 abbrev pub IsToldOf : Kinds → WordsFault → Type 0
 IsToldOf kinds words_fault.Memory = ⊤
 IsToldOf kinds words_fault.Verdict = kinds ≡ []
 IsToldOf kinds words_fault.Origin = kinds ≡ []
 IsToldOf kinds words_fault.Digest = kinds ≡ []
 IsToldOf kinds words_fault.TitleAlone = kinds ≡ []
+IsToldOf kinds words_fault.Form = kinds ≡ []
 IsToldOf kinds (words_fault.Words text status) = (list_any (λ kind. status_of_kind kind == status) kinds ≡ true) × (string_bytes text ≢ [])
 
--- if it is reported that a verdict, an origin or a digest is invalid, or that a title is given although nothing is shown in public, then this is what the words mean
+-- What is reported is what the words mean: that a verdict, an origin or a digest is invalid, that a title is given although nothing is shown in public, or that the
+-- words after `forms` name no form.
 abbrev pub IsNoneMeant : Option Meant → WordsFault → Type 0
 IsNoneMeant meant words_fault.Memory = ⊤
 IsNoneMeant meant words_fault.Verdict = meant ≡ Some no_verdict
 IsNoneMeant meant words_fault.Origin = meant ≡ Some no_origin
 IsNoneMeant meant words_fault.Digest = meant ≡ Some no_digest
 IsNoneMeant meant words_fault.TitleAlone = meant ≡ Some title_alone
+IsNoneMeant meant words_fault.Form = meant ≡ Some no_form
 IsNoneMeant meant (words_fault.Words text status) = ⊤
 
 -- what is printed if the word after `--origin` is invalid
@@ -245,6 +259,10 @@ bad_digest = codes "error: a digest is 64 hexadecimal digits, as sha256sum print
 abbrev pub bad_title : Text
 bad_title = codes "error: --title is the title of what is shown in public, so it needs --public\n"
 
+-- what is printed if the words after `forms` name no form
+abbrev pub bad_form : Text
+bad_form = codes "error: a form is covers, adjudication, lots or declaration, and a ward's number; or slips, a file of codes, and --address\n"
+
 -- the text is the one that a value displays, if that is known and not empty
 abbrev pub IsOwnText : Option Text → Text → Type 0
 IsOwnText own text = IfSome own (λ bytes. bytes ≢ [] → text ≡ bytes)
@@ -256,6 +274,7 @@ TellsRefusal kind words_fault.Verdict = ⊥
 TellsRefusal kind words_fault.Origin = ⊥
 TellsRefusal kind words_fault.Digest = ⊥
 TellsRefusal kind words_fault.TitleAlone = ⊥
+TellsRefusal kind words_fault.Form = ⊥
 TellsRefusal kind (words_fault.Words text status) = (kind ≢ OutOfMemory) × (status ≡ status_of_kind kind) × (string_bytes text ≢ [])
 
 -- the printed text is the given one, if that is known and not empty
@@ -265,4 +284,5 @@ TellsOwnText own words_fault.Verdict = ⊥
 TellsOwnText own words_fault.Origin = ⊥
 TellsOwnText own words_fault.Digest = ⊥
 TellsOwnText own words_fault.TitleAlone = ⊥
+TellsOwnText own words_fault.Form = ⊥
 TellsOwnText own (words_fault.Words text status) = IsOwnText own (string_bytes text)

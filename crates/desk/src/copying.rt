@@ -42,7 +42,7 @@ pub enum CopyState {
 }
 
 /// Returns what the other database contains after the given fault.
-fn state_behind(fault: CopyFault) -> CopyState
+pub(crate) fn state_behind(fault: CopyFault) -> CopyState
     ensures { result ≡ state_behind fault }
 {
     match fault {

@@ -27,9 +27,9 @@ use streams::Sink;
 /// The text of a journal that hasn't been checked yet, and the requests that it parses to; None if it isn't a script of requests
 /// only.
 #[derive(Drop)]
-struct Draft {
-    text: String,
-    requests: Option<Vec<Request>>,
+pub(crate) struct Draft {
+    pub(crate) text: String,
+    pub(crate) requests: Option<Vec<Request>>,
 }
 
 /// Returns the requests that the given steps send; None if a step does anything other than send a given request.
@@ -51,7 +51,7 @@ fn requests_of(
 }
 
 /// Returns a script's requests; None if the text isn't a script of requests only.
-fn requests_in(alloc: Global, text: &str) -> Result<Option<Vec<Request>>, AllocError>
+pub(crate) fn requests_in(alloc: Global, text: &str) -> Result<Option<Vec<Request>>, AllocError>
     ensures { IfOk result (λ found. IfSome found (λ requests. IsScriptOf text.now requests.items)) }
 {
     let lines = lines_in(alloc, text.as_bytes())?;
@@ -64,7 +64,7 @@ fn requests_in(alloc: Global, text: &str) -> Result<Option<Vec<Request>>, AllocE
 }
 
 /// Returns the text of the journal for an office with the given rows, and the requests it parses to.
-fn draft_of(alloc: Global, rows: &Rows) -> Result<Draft, AllocError>
+pub(crate) fn draft_of(alloc: Global, rows: &Rows) -> Result<Draft, AllocError>
     requires { MapsAreSorted (state_of rows.now) }
     ensures { IfOk result (λ draft. IfSome draft.requests (λ requests. IsScriptOf (string_bytes draft.text) requests.items)) }
 {

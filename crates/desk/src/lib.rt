@@ -6,14 +6,22 @@
 //! that aren't an order, and other failures. [`copy_office`](copying) performs an order to copy the office, and
 //! [`journal_office`](journal_check) an order to print its journal, each on two connections; an order to serve is performed by
 //! the `server` crate. In an office that is already open, such as one that is being served, [`follow`](order_running) does a job,
-//! and `copy_open` and `journal_open` copy the office and print its journal. [`files_named_in`](script_files) returns the paths
+//! and `copy_open` and `journal_open` copy the office and print its journal. There [`mend_open`](mended_office) makes another
+//! office from that journal, with some orders left out and others replaced. [`files_named_in`](script_files) returns the paths
 //! of the files that a script names, for a client that sends them along with it. Which files, outputs and sockets these are is up
 //! to the program.
 //!
 //! ```text
 //! match order(alloc, words) {
 //!     Ok(Order::Perform(task)) => perform(alloc, &task, conn, folder, out, err),    // the status and the connection
-//!     Ok(Order::Serve { .. } | Order::Copy { .. } | Order::Journal | Order::Codes { .. }) => ..,
+//!     Ok(
+//!         Order::Serve { .. }
+//!         | Order::Copy { .. }
+//!         | Order::Journal
+//!         | Order::Mend(_)
+//!         | Order::Codes { .. }
+//!         | Order::Slips { .. },
+//!     ) => ..,
 //!     Err(fault) => tell_words(&fault, out, err),
 //! }
 //! ```
@@ -41,6 +49,7 @@ mod import;
 mod journal;
 pub mod journal_check;
 pub mod lines;
+pub mod mended_office;
 pub mod order_running;
 mod overviews;
 mod papers;
@@ -50,7 +59,9 @@ mod printing;
 pub mod progress;
 mod sealing;
 mod sending;
+pub mod slips;
 mod steps;
+mod ward_forms;
 mod ward_status;
 
 pub use copying::{CopyState, copy_office, copy_open};
@@ -58,10 +69,12 @@ pub use folders::Folder;
 pub use journal_check::{journal_office, journal_open};
 pub use lines::{
     Failure, tell_codes_and_office_made, tell_codes_fault, tell_codes_made, tell_failure,
-    tell_words,
+    tell_slips, tell_words,
 };
+pub use mended_office::{MendTrial, mend_open};
 pub use order_running::follow;
-pub use orders::{Errand, ExpectedSeal, Job, KeyingFile, Order, Question, Task};
+pub use orders::{Errand, ExpectedSeal, Form, Job, KeyingFile, MendOrder, Order, Question, Task};
 pub use progress::ProgressSink;
 pub use script_files::files_named_in;
+pub use slips::slips_of;
 pub use words::{WordsFault, order};

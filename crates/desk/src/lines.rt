@@ -6,10 +6,10 @@ ghost use Rattle.keyfile.specs.Faults.{flaw_batch, flaw_between, flaw_clerk};
 ghost use Rattle.desk.specs.Pages.{IsErrorTold, IsPut, Shows, fronted, line_front, migrated_text, note_line, noted, numbered_line, outputs_of, printed, status_of_file};
 ghost use Rattle.codes.specs.Faults.{fault_line, fault_text as codes_text};
 ghost use Rattle.desk.specs.Pages.{codes_and_office_made_page, codes_made_page, codes_page, codes_place};
-ghost use Rattle.desk.specs.Pages.{failed, failure_number, failure_of, failure_text, page_of, refused, script_page, unjournalled, unread, unsealed, words_page};
+ghost use Rattle.desk.specs.Pages.{failed, failure_number, failure_of, failure_text, no_form_text, page_of, refused, script_page, unformed, unjournalled, unmended, unread, unsealed, words_page};
 
 use crate::scripts::ScriptFault;
-use crate::words::{BAD_DIGEST, BAD_ORIGIN, BAD_TITLE, WordsFault};
+use crate::words::{BAD_DIGEST, BAD_FORM, BAD_ORIGIN, BAD_TITLE, WordsFault};
 use codes::CodesFault;
 use itoa::Buffer;
 use keyfile::{FileFault, Flaw};
@@ -21,6 +21,15 @@ use thiserror::Error;
 /// The message if replaying the journal doesn't reproduce its office, for example because the receipts and the other tables don't
 /// match.
 const NO_JOURNAL: &str = "no journal: what was written does not make this office";
+
+/// The reason why there is no form.
+#[derive(Clone, Copy)]
+pub(crate) enum NoForm {
+    /// No lot is due in the ward.
+    NoLot,
+    /// The ward isn't declared, or doesn't exist.
+    Undeclared,
+}
 
 /// The outcome of an order.
 #[derive(Drop)]
@@ -51,6 +60,10 @@ pub(crate) enum LineOutcome {
     Unjournalled,
     /// A ward wasn't sealed because the number of papers given out differs from the expected number.
     Unsealed { given_out: u128, expected: u32 },
+    /// The ward has no such form yet.
+    Unformed(NoForm),
+    /// No new office was made from the journal. This text, whose lines are terminated, says why.
+    Unmended(String),
 }
 
 /// The reason why the program fails. 101 to 106 and 108 are faults of the office. 107 is an output that failed. 109 is a copy
@@ -291,6 +304,15 @@ pub fn tell_codes_made<O: Sink, E: Sink>(count: u32, out: &mut O, err: &mut E) -
     tell_text(&pieces, out, err)
 }
 
+/// Prints the page with clerks' slips. Returns 0, or 3 if the output fails.
+pub fn tell_slips<O: Sink, E: Sink>(page: &str, out: &mut O, err: &mut E) -> u8
+    requires out { O.failed out.old < 2 ^ 64 - 1 }
+    requires err { E.failed err.old < 2 ^ 64 - 1 }
+    ensures { let outputs = outputs_of O.taken O.failed E.taken E.failed in Shows (outputs out.old err.old) (outputs out.new err.new) (printed page.now) result }
+{
+    tell_text(&[page], out, err)
+}
+
 /// Prints that codes were made for `count` clerks, and one for the office. Returns 0, or 3 if the output fails.
 pub fn tell_codes_and_office_made<O: Sink, E: Sink>(count: u32, out: &mut O, err: &mut E) -> u8
     requires out { O.failed out.old < 2 ^ 64 - 1 }
@@ -328,6 +350,39 @@ fn tell_unsealed<E: Sink>(line: Option<usize>, given_out: u128, expected: u32, e
         " were expected\n",
     ];
     tell_error(line, &pieces, 1, err)
+}
+
+/// Returns the reason why there is no form, in words.
+fn no_form_text(why: NoForm) -> &'static str
+    ensures { result.now ≡ no_form_text why }
+{
+    match why {
+        NoForm::NoLot => "no lot is due",
+        NoForm::Undeclared => "the ward is not declared",
+    }
+}
+
+/// Prints that there is no form. Returns 1, or 3 if the error output fails.
+fn tell_unformed<E: Sink>(line: Option<usize>, why: NoForm, err: &mut E) -> u8
+    requires { E.failed err.old < 2 ^ 64 - 1 }
+    ensures { IsErrorTold E.taken E.failed err.old err.new (line_front line ++ (unformed why).err) 1 result }
+{
+    tell_error(line, &["no form: ", no_form_text(why), "\n"], 1, err)
+}
+
+/// Returns the line number to print before a text: none if the text is empty.
+fn line_before(line: Option<usize>, text: &str) -> Option<usize>
+    ensures { line_front result ++ text.now ≡ (fronted line (unmended text.now)).err }
+{
+    if text.is_empty() { None } else { line }
+}
+
+/// Prints why no new office was made from the journal. Returns 1, or 3 if the error output fails.
+fn tell_unmended<E: Sink>(line: Option<usize>, text: &str, err: &mut E) -> u8
+    requires { E.failed err.old < 2 ^ 64 - 1 }
+    ensures { IsErrorTold E.taken E.failed err.old err.new (fronted line (unmended text.now)).err 1 result }
+{
+    tell_error(line_before(line, text), &[text], 1, err)
 }
 
 /// Prints a failure and returns its status, 3.
@@ -426,9 +481,10 @@ fn tell_noted<O: Sink, E: Sink>(
 }
 
 /// Prints an outcome and returns its status. The status is 0 if the outcome is printed to the output. If it is printed to the
-/// error output, the status is 1 for the refusal of a request or a file and for an office without a journal, and 3 for a fault or
-/// a file that couldn't be read. The status is also 3 if either output fails, in which case only a prefix was written to it. If
-/// the outcome is that of a script's line, what is printed to the error output begins with the line number.
+/// error output, the status is 3 for a fault or a file that couldn't be read, and 1 otherwise. Status 1 is for the refusal of a
+/// request or a file, and for the lack of a seal, a form, a journal or a mended office. The status is also 3 if either output
+/// fails, in which case only a prefix was written to it. If the outcome is that of a script's line, what is printed to the error
+/// output begins with the line number.
 pub(crate) fn tell<O: Sink, E: Sink>(
     line: Option<usize>,
     outcome: &LineOutcome,
@@ -456,6 +512,8 @@ pub(crate) fn tell<O: Sink, E: Sink>(
             given_out,
             expected,
         } => { tell_unsealed(line, *given_out, *expected, err) }
+        LineOutcome::Unformed(why) => tell_unformed(line, *why, err),
+        LineOutcome::Unmended(text) => tell_unmended(line, text.as_str(), err),
     }
 }
 
@@ -483,6 +541,7 @@ pub fn tell_words<O: Sink, E: Sink>(fault: &WordsFault, out: &mut O, err: &mut E
         WordsFault::Origin => tell_error(None, &[BAD_ORIGIN], 2, err),
         WordsFault::Digest => tell_error(None, &[BAD_DIGEST], 2, err),
         WordsFault::TitleAlone => tell_error(None, &[BAD_TITLE], 2, err),
+        WordsFault::Form => tell_error(None, &[BAD_FORM], 2, err),
         WordsFault::Words { text, status: 0 } => tell_text(&[text.as_str()], out, err),
         WordsFault::Words { text, status } => tell_error(None, &[text.as_str()], *status, err),
     }

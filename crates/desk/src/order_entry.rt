@@ -29,6 +29,8 @@ pub(crate) enum Kind {
     Papers,
     /// Zero or more texts, after the other words.
     Texts,
+    /// Zero or more texts, each after `--` and the name.
+    Options,
     /// A flag: `--` followed by its name; optional.
     Flag,
 }
@@ -117,8 +119,26 @@ pub(crate) const STAGE: Word =
 pub(crate) const FILE: Word =
     word!(Text "FILE", "The path of an import file; docs/formats/files.md has its form");
 
+pub(crate) const FORM: Word =
+    word!(Text "FORM", "Which form: covers, adjudication, lots or declaration, of a ward; or slips");
+
+pub(crate) const SOURCE: Word =
+    word!(Text "SOURCE", "The ward's number, 1 to 99; for slips, the path of a file of codes");
+
+pub(crate) const ADDRESS: Word =
+    word!(Origin "address", "For slips, where clerks reach the office, as http://127.0.0.1:8080");
+
 pub(crate) const NEW: Word =
     word!(Text "NEW", "The path of the copy; there must be nothing at it yet");
+
+pub(crate) const NEW_OFFICE: Word =
+    word!(Text "NEW", "The path of the new office; there must be nothing at it yet");
+
+pub(crate) const WITHOUT: Word =
+    word!(Options "without", "The id of an order to leave out, as v1; of a clerk's with the clerk, as 4:k1;\nmay be given several times");
+
+pub(crate) const WITH: Word =
+    word!(Options "with", "An order, as a line of a script, in the place of the one about the same thing,\nas \"judge 13 6 reject:4 --id v2\"; may be given several times");
 
 pub(crate) const SCRIPT: Word =
     word!(Text "FILE", "The path of a script; docs/formats/files.md has its form");

@@ -1,24 +1,29 @@
 //! The table of orders, and the meaning of matched words.
 //!
 //! To add an order, add an entry to [`ORDERS_TO_SEAL`] or [`ORDERS_FROM_SEAL`] and a match arm that returns what its words mean.
-//! The arm goes in [`command_named`] if the order sends a command, and in [`order_named`] otherwise; it may also need a new variant
-//! of [`Errand`](crate::orders::Errand). The meaning of the order is defined by an entry of `orders` in specs/Orders.antt.
+//! The arm goes in [`command_named`] if the order sends a command, in [`question_named`] if it asks a question, and in
+//! [`order_named`] otherwise; it may also need a new variant of [`Errand`](crate::orders::Errand). The meaning of the order is
+//! defined by an entry of `orders` in specs/Orders.antt.
 #![tactic(auto, unfolding(crate::specs::Orders::orders))]
 
-ghost use Rattle.std.specs.Prelude.{◌≡◌, ◌⊎◌, false, Err, None, Some, codes, drop, map, take, IfErr, IfOk, option_map, string_bytes};
+ghost use Rattle.std.specs.Prelude.{◌≡◌, ◌⊎◌, false, Err, None, Some, codes, drop, map, take, IfErr, IfOk, IfSome, option_map, string_bytes};
 ghost use Rattle.clap.specs.Words.{all_of, first_of, found_of, rows_of, subcommand_rows_of};
-ghost use Rattle.desk.specs.Orders.{ask, no_digest, no_origin, no_verdict, orders, print, title_alone, told, told_errand, told_text, words_of};
+ghost use Rattle.desk.specs.Orders.{ask, form_meant, form_of_ward, no_digest, no_form, no_origin, no_verdict, orders, print, title_alone, told, told_errand, told_text, ward_form_in, words_of};
+ghost use Rattle.desk.specs.Numbers.{number_in as number_of};
 ghost use Rattle.keyfile.specs.Digests.{digest_bytes};
 ghost use Rattle.origins.specs.Origins.{origin_text};
-ghost use Rattle.desk.specs.Words.{digest_at, is_command_name, is_order_name, meaning, meaning_of, names_order, number_at, number_found, origin_at, sent, text_at};
+ghost use Rattle.desk.specs.Words.{digest_at, is_command_name, is_order_name, is_question_name, meaning, meaning_of, names_order, number_at, number_found, origin_at, sent, text_at};
 ghost use Rattle.desk.specs.Words.{flag_at, public_at, texts_at};
 
 use crate::order_entry::{
-    ACTOR, BATCH, CANDIDATE, CLERK, CLERKS, CODES, CODES_FILE, CONNECTIONS, DIGEST, Entry, FILE,
-    FIRST_CLERK, Heading, ID, KEEP_GOING, MARKS, NAME, NEW, ORIGIN, PAPER, PAPERS, PORT, PUBLIC,
-    ROUND, SCRIPT, SEATS, SECOND_CLERK, SIZE, STAGE, TITLE, VERDICT, WARD, WITH_OFFICE, Word,
+    ACTOR, ADDRESS, BATCH, CANDIDATE, CLERK, CLERKS, CODES, CODES_FILE, CONNECTIONS, DIGEST, Entry,
+    FILE, FIRST_CLERK, FORM, Heading, ID, KEEP_GOING, MARKS, NAME, NEW, NEW_OFFICE, ORIGIN, PAPER,
+    PAPERS, PORT, PUBLIC, ROUND, SCRIPT, SEATS, SECOND_CLERK, SIZE, SOURCE, STAGE, TITLE, VERDICT,
+    WARD, WITH, WITH_OFFICE, WITHOUT, Word,
 };
-use crate::orders::{Errand, ExpectedSeal, Job, KeyingFile, Order, Question, Task};
+use crate::orders::{
+    Errand, ExpectedSeal, Form, Job, KeyingFile, MendOrder, Order, Question, Task,
+};
 use crate::requests::{by_clerk, by_office};
 use crate::verdicts::verdict_in;
 use clap::ArgMatches;
@@ -68,7 +73,7 @@ const ORDERS_TO_SEAL: [Entry; 13] = [
 /// The other orders: those from the seal on, in the same order; then `migrate`; then those for the office alone; and then those for
 /// everyone.
 #[rattlefmt::skip]
-const ORDERS_FROM_SEAL: [Entry; 25] = [
+const ORDERS_FROM_SEAL: [Entry; 27] = [
     order!(Election "seal" [WARD, ID, PAPERS], "Seals a ward whose papers are all agreed and judged:\ncount-office town.db seal 7 --id s1"),
     order!(Election "advance" [WARD, ID], "Counts the one stage that is due in a sealed ward:\ncount-office town.db advance 7 --id a1"),
     order!(Election "count" [WARD, ID], "Counts a sealed ward up to a lot or the end, its first stage under ID-1:\ncount-office town.db count 7 --id a"),
@@ -89,7 +94,10 @@ const ORDERS_FROM_SEAL: [Entry; 25] = [
     order!(Office "journal" [], "Prints the accepted orders of the office as a script, whole:\ncount-office town.db journal"),
     order!(Office "replay" [SCRIPT, KEEP_GOING], "Sends the orders of a text file, one per line, up to a refusal:\ncount-office town.db replay evening.txt"),
     order!(Office "copy" [NEW], "Makes a copy of the office, in a file that isn't there yet:\ncount-office town.db copy evening.db"),
+    order!(Office "mend" [NEW_OFFICE, WITHOUT, WITH],
+        "Makes a new office from the journal, without some orders, or with others in their place:\ncount-office town.db mend new.db --with \"judge 13 6 reject:4 --id v2\""),
     order!(Office "codes" [CODES_FILE, CLERKS, WITH_OFFICE], "Writes a new file of codes, one for each of these clerks:\ncount-office town.db codes codes.txt 1-40"),
+    order!(Office "forms" [FORM, SOURCE, ADDRESS], "Prints a form of a ward, or slips of clerks, as a page for a browser:\ncount-office town.db forms covers 7"),
     order!(Everyone "ballots" [WARD], "Prints the ballots of a sealed ward, in a form that counting programs read:\ncount-office town.db ballots 7"),
     order!(Everyone "page" [WARD, TITLE], "Prints the result of a sealed ward as a page for a browser, to print and sign:\ncount-office town.db page 7"),
     order!(Everyone "table" [WARD], "Prints the stages of a sealed ward as a table for a spreadsheet:\ncount-office town.db table 7"),
@@ -125,6 +133,8 @@ pub(crate) enum NoOrder {
     BadDigest,
     /// A title is given, but nothing is shown in public.
     TitleAlone,
+    /// The words after `forms` name no form.
+    BadForm,
     /// An allocation failed.
     Memory,
 }
@@ -205,11 +215,11 @@ fn flag_in(matches: &ArgMatches<'_>, word: Word) -> bool
 }
 
 /// Returns the origin that was matched, if any.
-fn origin_in<'a>(matches: &ArgMatches<'a>) -> Result<Option<Origin<'a>>, NoOrder>
-    ensures ok { IfOk result (λ found. origin_at (codes "origin") (rows_of (found_of matches.now)) ≡ option_map (λ o. Some (origin_text o)) found) }
-    ensures err { IfErr result (λ why. (why ≡ NoOrder.BadOrigin) × (origin_at (codes "origin") (rows_of (found_of matches.now)) ≡ Some None)) }
+fn origin_in<'a>(matches: &ArgMatches<'a>, word: Word) -> Result<Option<Origin<'a>>, NoOrder>
+    ensures ok { IfOk result (λ found. origin_at word.name.now (rows_of (found_of matches.now)) ≡ option_map (λ o. Some (origin_text o)) found) }
+    ensures err { IfErr result (λ why. (why ≡ NoOrder.BadOrigin) × (origin_at word.name.now (rows_of (found_of matches.now)) ≡ Some None)) }
 {
-    let Some(text) = text_found_in(matches, ORIGIN) else {
+    let Some(text) = text_found_in(matches, word) else {
         return Ok(None);
     };
     match Origin::parse(text) {
@@ -283,6 +293,7 @@ fn command_named(alloc: Global, name: &str, matches: &ArgMatches<'_>) -> Result<
     ensures bad_origin { result ≡ Err NoOrder.BadOrigin → meaning_of name.now (rows_of (found_of matches.now)) ≡ Some no_origin }
     ensures bad_digest { result ≡ Err NoOrder.BadDigest → meaning_of name.now (rows_of (found_of matches.now)) ≡ Some no_digest }
     ensures title_alone { result ≡ Err NoOrder.TitleAlone → meaning_of name.now (rows_of (found_of matches.now)) ≡ Some title_alone }
+    ensures bad_form { result ≡ Err NoOrder.BadForm → meaning_of name.now (rows_of (found_of matches.now)) ≡ Some no_form }
 {
     let ward = number_in(matches, WARD);
     let candidate = number_in(matches, CANDIDATE);
@@ -425,6 +436,18 @@ fn replay<'a>(matches: &ArgMatches<'a>) -> Order<'a>
     }))
 }
 
+/// Returns the order that makes a new office from this one's journal.
+fn mending<'a>(alloc: Global, matches: &ArgMatches<'a>) -> Result<Order<'a>, NoOrder>
+    ensures ok { IfOk result (λ o. meaning_of (codes "mend") (rows_of (found_of matches.now)) ≡ Some (told o)) }
+    ensures err { IfErr result (λ why. why ≡ NoOrder.Memory) }
+{
+    Ok(Order::Mend(MendOrder {
+        path: text_in(matches, NEW_OFFICE),
+        without: texts_copied(alloc, matches, WITHOUT)?,
+        instead: texts_copied(alloc, matches, WITH)?,
+    }))
+}
+
 fn serve<'a>(matches: &ArgMatches<'a>) -> Result<Order<'a>, NoOrder>
     ensures ok { IfOk result (λ o. meaning_of (codes "serve") (rows_of (found_of matches.now)) ≡ Some (told o)) }
     ensures bad_origin { result ≡ Err NoOrder.BadOrigin → meaning_of (codes "serve") (rows_of (found_of matches.now)) ≡ Some no_origin }
@@ -434,7 +457,7 @@ fn serve<'a>(matches: &ArgMatches<'a>) -> Result<Order<'a>, NoOrder>
     Ok(Order::Serve {
         port: number_in(matches, PORT),
         connections: number_found_in(matches, CONNECTIONS),
-        origin: origin_in(matches)?,
+        origin: origin_in(matches, ORIGIN)?,
         codes: text_found_in(matches, CODES),
         public: public_in(matches)?,
     })
@@ -470,6 +493,110 @@ fn asking<'a>(question: Question) -> Order<'a>
     in_office(Errand::Ask(question))
 }
 
+/// Returns the form of a ward with this name, if there is one.
+fn ward_form_in(name: &str) -> Option<Form>
+    ensures { result ≡ ward_form_in name.now }
+{
+    match name {
+        "covers" => Some(Form::Covers),
+        "adjudication" => Some(Form::Adjudication),
+        "lots" => Some(Form::Lots),
+        "declaration" => Some(Form::Declaration),
+        _ => None,
+    }
+}
+
+/// Parses a number; `None` if the text isn't one.
+fn number_of(text: &str) -> Option<u32>
+    ensures { result ≡ number_of text.now }
+{
+    match text.parse::<u32>() {
+        Ok(number) => Some(number),
+        Err(_) => None,
+    }
+}
+
+/// Returns the order that prints the form of the ward with this number, if there are both.
+fn form_of_ward<'a>(form: Option<Form>, ward: Option<u32>) -> Result<Order<'a>, NoOrder>
+    ensures ok { IfOk result (λ o. told o ≡ form_of_ward form ward) }
+    ensures err { IfErr result (λ why. (why ≡ NoOrder.BadForm) × (form_of_ward form ward ≡ no_form)) }
+{
+    let Some(form) = form else {
+        return Err(NoOrder::BadForm);
+    };
+    match ward {
+        Some(ward) => Ok(asking(Question::Form { form, ward })),
+        None => Err(NoOrder::BadForm),
+    }
+}
+
+/// Returns the order for the form with this name, given the word after the name, if there is no address.
+fn form_named<'a>(name: &str, word: &str) -> Result<Order<'a>, NoOrder>
+    ensures ok { IfOk result (λ o. told o ≡ form_meant name.now word.now None) }
+    ensures err { IfErr result (λ why. (why ≡ NoOrder.BadForm) × (form_meant name.now word.now None ≡ no_form)) }
+{
+    form_of_ward(ward_form_in(name), number_of(word))
+}
+
+/// Returns the order for the form with this name, given the word after the name and an address.
+fn form_with_address<'a>(
+    name: &str,
+    word: &'a str,
+    address: Origin<'a>,
+) -> Result<Order<'a>, NoOrder>
+    ensures ok { IfOk result (λ o. told o ≡ form_meant name.now word.now (Some (origin_text address.entry))) }
+    ensures err { IfErr result (λ why. (why ≡ NoOrder.BadForm) × (form_meant name.now word.now (Some (origin_text address.entry)) ≡ no_form)) }
+{
+    if name == "slips" {
+        Ok(Order::Slips {
+            path: word,
+            address,
+        })
+    } else {
+        Err(NoOrder::BadForm)
+    }
+}
+
+/// Returns the order that prints a form of a ward, or slips of a file of codes.
+fn forms<'a>(matches: &ArgMatches<'a>) -> Result<Order<'a>, NoOrder>
+    ensures ok { IfOk result (λ o. meaning_of (codes "forms") (rows_of (found_of matches.now)) ≡ Some (told o)) }
+    ensures bad_origin { result ≡ Err NoOrder.BadOrigin → meaning_of (codes "forms") (rows_of (found_of matches.now)) ≡ Some no_origin }
+    ensures bad_form { result ≡ Err NoOrder.BadForm → meaning_of (codes "forms") (rows_of (found_of matches.now)) ≡ Some no_form }
+    ensures err { IfErr result (λ why. (why ≡ NoOrder.BadOrigin) ⊎ (why ≡ NoOrder.BadForm)) }
+{
+    let name = text_in(matches, FORM);
+    let word = text_in(matches, SOURCE);
+    match origin_in(matches, ADDRESS)? {
+        Some(address) => {
+            let order = form_with_address(name, word, address)?;
+            Ok(order)
+        }
+        None => {
+            let order = form_named(name, word)?;
+            Ok(order)
+        }
+    }
+}
+
+/// Returns the question that the order of this name asks, with the matched values; `None` if it asks none.
+fn question_named(name: &str, matches: &ArgMatches<'_>) -> Option<Question>
+    ensures some { IfSome result (λ question. meaning_of name.now (rows_of (found_of matches.now)) ≡ Some (ask question)) }
+    ensures none { result ≡ None → is_question_name name.now ≡ false }
+{
+    let ward = number_in(matches, WARD);
+    let batch = number_in(matches, BATCH);
+    let actor = number_found_in(matches, ACTOR);
+    match name {
+        "wards" => Some(Question::Wards),
+        "batches" => Some(Question::Batches { ward }),
+        "doubtful" => Some(Question::Doubtful { ward }),
+        "differences" => Some(Question::Differences { batch }),
+        "papers" => Some(Question::Papers { batch }),
+        "receipts" => Some(Question::Receipts { actor }),
+        _ => None,
+    }
+}
+
 /// Returns the order with the given name, with the matched values.
 fn order_named<'a>(
     alloc: Global,
@@ -482,10 +609,9 @@ fn order_named<'a>(
     ensures bad_origin { result ≡ Err NoOrder.BadOrigin → meaning_of name.now (rows_of (found_of matches.now)) ≡ Some no_origin }
     ensures bad_digest { result ≡ Err NoOrder.BadDigest → meaning_of name.now (rows_of (found_of matches.now)) ≡ Some no_digest }
     ensures title_alone { result ≡ Err NoOrder.TitleAlone → meaning_of name.now (rows_of (found_of matches.now)) ≡ Some title_alone }
+    ensures bad_form { result ≡ Err NoOrder.BadForm → meaning_of name.now (rows_of (found_of matches.now)) ≡ Some no_form }
 {
     let ward = number_in(matches, WARD);
-    let batch = number_in(matches, BATCH);
-    let actor = number_found_in(matches, ACTOR);
     match name {
         "init" => Ok(Order::Perform(Task::Init)),
         "migrate" => Ok(Order::Perform(Task::Migrate)),
@@ -504,23 +630,22 @@ fn order_named<'a>(
         "table" => Ok(printing(matches, WardText::Table)),
         "index" => Ok(index(matches)),
         "serve" => serve(matches),
-        "wards" => Ok(asking(Question::Wards)),
-        "batches" => Ok(asking(Question::Batches { ward })),
-        "doubtful" => Ok(asking(Question::Doubtful { ward })),
-        "differences" => Ok(asking(Question::Differences { batch })),
-        "papers" => Ok(asking(Question::Papers { batch })),
-        "receipts" => Ok(asking(Question::Receipts { actor })),
+        "forms" => forms(matches),
         "journal" => Ok(Order::Journal),
         "replay" => Ok(replay(matches)),
         "copy" => Ok(Order::Copy {
             path: text_in(matches, NEW),
         }),
+        "mend" => mending(alloc, matches),
         "codes" => Ok(Order::Codes {
             path: text_in(matches, CODES_FILE),
             clerks: text_in(matches, CLERKS),
             with_office: flag_in(matches, WITH_OFFICE),
         }),
-        _ => sending(alloc, matches, command_named(alloc, name, matches)?),
+        _ => match question_named(name, matches) {
+            Some(question) => Ok(asking(question)),
+            None => sending(alloc, matches, command_named(alloc, name, matches)?),
+        },
     }
 }
 
@@ -532,6 +657,7 @@ pub(crate) fn order_in<'a>(alloc: Global, matches: &ArgMatches<'a>) -> Result<Or
     ensures bad_origin { result ≡ Err NoOrder.BadOrigin → meaning (subcommand_rows_of matches.now) ≡ Some no_origin }
     ensures bad_digest { result ≡ Err NoOrder.BadDigest → meaning (subcommand_rows_of matches.now) ≡ Some no_digest }
     ensures title_alone { result ≡ Err NoOrder.TitleAlone → meaning (subcommand_rows_of matches.now) ≡ Some title_alone }
+    ensures bad_form { result ≡ Err NoOrder.BadForm → meaning (subcommand_rows_of matches.now) ≡ Some no_form }
 {
     match matches.subcommand() {
         Some((name, inner)) => order_named(alloc, name, inner),

@@ -29,6 +29,19 @@ pub struct ExpectedSeal<'a> {
     pub id: &'a str,
 }
 
+/// A form of a ward, to be printed and filled in by hand.
+#[derive(Clone, Copy, Debug)]
+pub enum Form {
+    /// A cover for each batch.
+    Covers,
+    /// The doubtful papers, with room for the verdicts.
+    Adjudication,
+    /// The lot that the count waits for.
+    Lots,
+    /// The wording of the declaration.
+    Declaration,
+}
+
 /// A question that only the office asks.
 #[derive(Clone, Copy, Debug)]
 pub enum Question {
@@ -44,6 +57,8 @@ pub enum Question {
     Papers { batch: u32 },
     /// The receipts of one actor, or of all actors.
     Receipts { actor: Option<u32> },
+    /// A form of a ward.
+    Form { form: Form, ward: u32 },
 }
 
 /// A task in an existing office. Numbers are kept as given, whether or not they are in range.
@@ -158,6 +173,15 @@ impl<'a> Task<'a> {
     }
 }
 
+/// An order to mend: the path of the new office, the names of the orders to leave out, and the orders that replace others, each as a
+/// line of a script.
+#[derive(Debug, Drop)]
+pub struct MendOrder<'a> {
+    pub path: &'a str,
+    pub without: Vec<String>,
+    pub instead: Vec<String>,
+}
+
 /// What the program is asked to do.
 #[derive(Debug, Drop)]
 pub enum Order<'a> {
@@ -169,11 +193,18 @@ pub enum Order<'a> {
     },
     /// Print the journal of the office.
     Journal,
+    /// Make a new office, in a file that doesn't exist yet, from this one's journal, with some orders left out and others replaced.
+    Mend(MendOrder<'a>),
     /// Write a new codes file, which must not exist yet, for the clerks that a word names, and for the office too if requested.
     Codes {
         path: &'a str,
         clerks: &'a str,
         with_office: bool,
+    },
+    /// Print a slip for each clerk of a file of codes, with the address at which the clerk reaches the office.
+    Slips {
+        path: &'a str,
+        address: Origin<'a>,
     },
     /// Serve connections on a local port. If an origin is given, its pages are also served through a proxy. Serving
     /// ends after this many connections, or continues forever if no number is given. Clerks need codes if the path of a codes file

@@ -17,6 +17,7 @@ ghost use Rattle.desk.specs.Pages.{failed, line, page_of, page_stopped, printed}
 use crate::lines::{Failure, LineOutcome};
 use crate::orders::Question;
 use crate::papers::{doubtful_lines, paper_lines};
+use crate::ward_forms::form_of;
 use crate::ward_status::phase_word;
 use office::{Office, ReadError};
 use paper::Columns;
@@ -255,8 +256,22 @@ fn lines_of<T: Lined>(alloc: Global, found: &[T]) -> Result<String, AllocError>
     Ok(text)
 }
 
+/// Returns the line on each ward, without its terminator.
+pub(crate) fn lines_on_wards(
+    alloc: Global,
+    wards: &[WardOverview],
+) -> Result<Vec<String>, AllocError>
+    ensures { IfOk result (λ lines. map string_bytes lines.items ≡ map (λ w. ward_line (ward_view w)) wards.now) }
+{
+    let mut lines = Vec::new(alloc);
+    for ward in wards {
+        lines.push(ward.line(alloc)?)?;
+    }
+    Ok(lines)
+}
+
 /// Returns what is printed for a read that was refused or failed.
-fn stopped(stop: ReadError) -> LineOutcome
+pub(crate) fn stopped(stop: ReadError) -> LineOutcome
     ensures { page_of result ≡ page_stopped stop }
 {
     match stop {
@@ -341,6 +356,7 @@ pub(crate) fn answer_to<S: Alter>(
         Question::Doubtful { ward } => doubtful_of(alloc, office, ward),
         Question::Differences { batch } => differences_of(alloc, office, batch),
         Question::Papers { batch } => papers_of(alloc, office, batch),
+        Question::Form { form, ward } => form_of(alloc, office, form, ward),
         Question::Receipts { actor } => outcome_of(alloc, office.receipts(actor)),
     }
 }

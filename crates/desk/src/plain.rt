@@ -35,7 +35,7 @@ impl<R: Read + Drop> Folder for OneFile<R> {
 ///
 /// `file` is `None` if the file couldn't be opened. This is [`perform`](crate::perform::perform) with a folder of that one file, so
 /// the import files that a script names can't be opened. It accepts any order except those to serve, to copy, to print a journal,
-/// or to make codes.
+/// to mend, to make codes, or to print slips.
 pub fn perform<S: Alter, R: Read + Drop, O: Sink, E: Sink>(
     alloc: Global,
     order: &Order<'_>,
@@ -57,7 +57,9 @@ pub fn perform<S: Alter, R: Read + Drop, O: Sink, E: Sink>(
         Order::Perform(task) => { crate::perform::perform(alloc, task, conn, &folder, out, err) }
         Order::Copy { .. } => unreachable!(),
         Order::Journal => unreachable!(),
+        Order::Mend(_) => unreachable!(),
         Order::Codes { .. } => unreachable!(),
+        Order::Slips { .. } => unreachable!(),
         Order::Serve { .. } => unreachable!(),
     }
 }

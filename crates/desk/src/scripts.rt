@@ -6,7 +6,7 @@ ghost use Rattle.desk.specs.Scripts.{AreTurns, IsFlawOfWords, IsStep, Means, lin
 
 use crate::lexer;
 use crate::orders::{Errand, Job, Order, Task};
-use crate::words::{BAD_DIGEST, BAD_ORIGIN, BAD_TITLE, WordsFault, order};
+use crate::words::{BAD_DIGEST, BAD_FORM, BAD_ORIGIN, BAD_TITLE, WordsFault, order};
 use std::alloc::{AllocError, Global};
 use std::str;
 
@@ -32,6 +32,8 @@ pub(crate) enum LineFlaw {
     Digest,
     /// `--title` is given without `--public`.
     TitleAlone,
+    /// The words after `forms` name no form.
+    Form,
     /// The words aren't an order. This text is printed for them.
     Words(String),
     /// The order isn't allowed in a script.
@@ -50,6 +52,7 @@ impl LineFlaw {
             LineFlaw::Origin => BAD_ORIGIN,
             LineFlaw::Digest => BAD_DIGEST,
             LineFlaw::TitleAlone => BAD_TITLE,
+            LineFlaw::Form => BAD_FORM,
             LineFlaw::Words(text) => text.as_str(),
             LineFlaw::Elsewhere => "error: this order can't be used in a script\n",
         }
@@ -163,7 +166,8 @@ fn errand_of(order: Order<'_>) -> Option<Errand<'_>>
         Order::Perform(Task::InOffice(Job::Run(errand))) => Some(errand),
         Order::Perform(Task::InOffice(Job::Replay { .. })) => None,
         Order::Perform(Task::Init | Task::Migrate) => None,
-        Order::Copy { .. } | Order::Journal | Order::Codes { .. } | Order::Serve { .. } => None,
+        Order::Copy { .. } | Order::Journal | Order::Mend(_) | Order::Serve { .. } => None,
+        Order::Codes { .. } | Order::Slips { .. } => None,
     }
 }
 
@@ -183,6 +187,7 @@ fn errand_in<'a>(alloc: Global, words: &'a [&'a str]) -> Result<Errand<'a>, Opti
         Err(WordsFault::Origin) => Err(Some(LineFlaw::Origin)),
         Err(WordsFault::Digest) => Err(Some(LineFlaw::Digest)),
         Err(WordsFault::TitleAlone) => Err(Some(LineFlaw::TitleAlone)),
+        Err(WordsFault::Form) => Err(Some(LineFlaw::Form)),
         Err(WordsFault::Words { status: 0, .. }) => Err(Some(LineFlaw::Elsewhere)),
         Err(WordsFault::Words { text, .. }) => Err(Some(LineFlaw::Words(text))),
     }

@@ -3,7 +3,7 @@
 ghost use Rattle.std.specs.Prelude.{◌≡◌, ◌≢◌, ◌⊎◌, ◌∷◌, true, false, [], Some, map, string_bytes, IfOk, IfErr};
 ghost use Rattle.clap.specs.Words.{app_of, rule_of, subcommand_of, takes, with_rule, with_subcommand};
 ghost use Rattle.clap.specs.declared.builder.command.Command.TheViews.{out-Command as fields_of};
-ghost use Rattle.desk.specs.Orders.{no_digest, no_origin, no_verdict, title_alone, told, words_of};
+ghost use Rattle.desk.specs.Orders.{no_digest, no_form, no_origin, no_verdict, title_alone, told, words_of};
 ghost use Rattle.desk.specs.Versions.{version_text};
 ghost use Rattle.desk.specs.Words.{IsNoneMeant, IsOwnText, IsToldOf, TellsOwnText, TellsRefusal, meaning, status_of_kind, wrong_with};
 ghost use Rattle.desk.specs.Words.{office_words, order_words, rule_of_kind, start_words, with_orders};
@@ -39,7 +39,10 @@ const END_OF_HELP: &str =
   journal            What was accepted, as a script of orders that makes the same office
   replay FILE        Sends the orders of a text file, one per line, up to a refusal
   copy NEW           Makes a copy of the office, in a file that isn't there yet
+  mend NEW           Makes a new office without some orders, or with others in their place
   codes FILE CLERKS  Writes a new file of codes for clerks, such as 1-40, to cut into slips
+  forms FORM SOURCE  A form as a page to print (HTML): covers, adjudication, lots or declaration
+                     of a ward, or slips of a file of codes
 
 For everyone who wants to see or check a count, once the ward is sealed:
   ballots WARD       Its ballots, in a form that counting programs read (BLT)
@@ -72,6 +75,10 @@ pub(crate) const BAD_DIGEST: &str =
 pub(crate) const BAD_TITLE: &str =
     "error: --title is the title of what is shown in public, so it needs --public\n";
 
+/// What is printed if the words after `forms` name no form.
+pub(crate) const BAD_FORM: &str =
+    "error: a form is covers, adjudication, lots or declaration, and a ward's number; or slips, a file of codes, and --address\n";
+
 /// The reason why the words aren't an order.
 #[derive(Drop)]
 pub enum WordsFault {
@@ -85,6 +92,8 @@ pub enum WordsFault {
     Digest,
     /// `--title` is given without `--public`.
     TitleAlone,
+    /// The words after `forms` name no form.
+    Form,
     /// The text to print and the exit status: 0 if help was requested, 2 if the words aren't understood.
     Words { text: String, status: u8 },
 }
@@ -117,6 +126,10 @@ fn arg_of<'a>(alloc: Global, word: Word) -> Arg<'a>
             arg.value_parser(value_parser!(u32))
         }
         Kind::Texts => arg.action(ArgAction::Append),
+        Kind::Options => {
+            let value = arg.long(word.name).value_name("TEXT");
+            value.action(ArgAction::Append)
+        }
         Kind::Flag => arg.long(word.name).action(ArgAction::SetTrue),
     }
 }
@@ -271,9 +284,10 @@ fn denied(alloc: Global, kind: ErrorKind, error: &Error) -> WordsFault
 /// Parses the words, the first of which is DB, into an order.
 ///
 /// The order and its values are those that `clap` matches in the words, according to the table of orders. Words that `clap` accepts
-/// are refused only if an allocation fails, if a verdict, an origin or a digest is invalid, or if `serve` is given a title but
-/// shows nothing in public. Words that `clap` rejects aren't an order: a nonempty text is printed for them, with status 0 if their
-/// first error is that they ask for help or the version, and with status 2 otherwise. If an allocation fails, that is reported.
+/// are refused only if an allocation fails, if a verdict, an origin or a digest is invalid, if words after `forms` name no form, or
+/// if `serve` is given a title but shows nothing in public. Words that `clap` rejects aren't an order: a nonempty text is printed
+/// for them, with status 0 if their first error is that they ask for help or the version, and with status 2 otherwise. If an
+/// allocation fails, that is reported.
 pub fn order<'a>(alloc: Global, words: &'a [&'a str]) -> Result<Order<'a>, WordsFault>
     ensures accepts { IfOk result (λ _. wrong_with (map (λ s. s.now) words.entry.now) ≡ []) }
     ensures denies { IfErr result (IsToldOf (wrong_with (map (λ s. s.now) words.entry.now))) }
@@ -284,7 +298,8 @@ pub fn order<'a>(alloc: Global, words: &'a [&'a str]) -> Result<Order<'a>, Words
         ⊎ (((e ≡ WordsFault.Verdict) × (meaning (subcommand_of office_words (map (λ s. s.now) words.entry.now)) ≡ Some no_verdict))
         ⊎ (((e ≡ WordsFault.Origin) × (meaning (subcommand_of office_words (map (λ s. s.now) words.entry.now)) ≡ Some no_origin))
         ⊎ (((e ≡ WordsFault.Digest) × (meaning (subcommand_of office_words (map (λ s. s.now) words.entry.now)) ≡ Some no_digest))
-        ⊎ ((e ≡ WordsFault.TitleAlone) × (meaning (subcommand_of office_words (map (λ s. s.now) words.entry.now)) ≡ Some title_alone)))))) }
+        ⊎ (((e ≡ WordsFault.TitleAlone) × (meaning (subcommand_of office_words (map (λ s. s.now) words.entry.now)) ≡ Some title_alone))
+        ⊎ ((e ≡ WordsFault.Form) × (meaning (subcommand_of office_words (map (λ s. s.now) words.entry.now)) ≡ Some no_form))))))) }
 {
     let command = match office_command(alloc) {
         Ok(command) => command,
@@ -301,6 +316,7 @@ pub fn order<'a>(alloc: Global, words: &'a [&'a str]) -> Result<Order<'a>, Words
         Err(NoOrder::BadOrigin) => Err(WordsFault::Origin),
         Err(NoOrder::BadDigest) => Err(WordsFault::Digest),
         Err(NoOrder::TitleAlone) => Err(WordsFault::TitleAlone),
+        Err(NoOrder::BadForm) => Err(WordsFault::Form),
         Err(NoOrder::Unknown) => Err(WordsFault::Words {
             text: String::new(alloc),
             status: 2,

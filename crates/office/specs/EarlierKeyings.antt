@@ -8,5 +8,5 @@ use Rattle.store.specs.EarlierKeyings.{KeyedRoundEntry, earlier_at}
 use Rattle.office.specs.Reads.{found_or}
 
 -- what one of a batch's clerks keyed for it in the most recent earlier round that the clerk keyed, if there is one; a batch that doesn't exist has no clerks
-abbrev pub earlier_told : OfficeState → ℕ → ℕ → Result (Option KeyedRoundEntry) Reason
-earlier_told s clerk batch = if is_clerk clerk && is_batch_number batch then found_or NotItsClerk (earlier_at s clerk batch) else Err NumberOutOfRange
+abbrev pub earlier_answer : OfficeState → ℕ → ℕ → Result (Option KeyedRoundEntry) Reason
+earlier_answer s clerk batch = if is_clerk clerk && is_batch_number batch then found_or NotItsClerk (earlier_at s clerk batch) else Err NumberOutOfRange

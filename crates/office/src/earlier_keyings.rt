@@ -8,7 +8,7 @@ ghost use Rattle.tables.specs.Reading.{OnlyReads};
 ghost use Rattle.store.specs.EarlierKeyings.{earlier_at, keyed_round_entry};
 ghost use Rattle.office.specs.Answers.{WhenOpenAt};
 ghost use Rattle.office.specs.Reads.{ReadWhenOpen, ReadFailsBy, ClosesAt};
-ghost use Rattle.office.specs.EarlierKeyings.{earlier_told};
+ghost use Rattle.office.specs.EarlierKeyings.{earlier_answer};
 
 use crate::answers::ReadError;
 use crate::open_office::Office;
@@ -30,7 +30,7 @@ impl<S: Alter> Office<S> {
         clerk: u32,
         batch: u32,
     ) -> Result<Option<KeyedRound>, ReadError>
-        ensures reads { ReadWhenOpen (state S.Store) self.old self.new (option_map keyed_round_entry) (λ s. earlier_told s clerk batch) result }
+        ensures reads { ReadWhenOpen (state S.Store) self.old self.new (option_map keyed_round_entry) (λ s. earlier_answer s clerk batch) result }
         ensures blind { WhenOpenAt (state S.Store) self.old self.new
             (λ s. IfOk result (λ keyed. Some (option_map keyed_round_entry keyed) ≡ earlier_at (seen_by clerk s) clerk batch)) }
         ensures same { OnlyReads (state S.Store self.old.held) (state S.Store self.new.held) }

@@ -38,7 +38,7 @@ moved-append (m ∷ ms) xs ys =
     ap (λ (zs : List PlacedEntry). all_moved zs ms) (map-append (λ (x : PlacedEntry). cond (is_eq (placed_cmp m x)) m x) xs ys)
     ∙ moved-append ms (moved_to m xs) (moved_to m ys)
 
--- a bundle that isn't among the moved bundles stays where it is
+-- a bundle that was not moved keeps its place
 keeps_others : (x : PlacedEntry) (ms xs : List PlacedEntry) → list_all (λ m. not (is_eq (placed_cmp m x))) ms ≡ true → all_moved (x ∷ xs) ms ≡ x ∷ all_moved xs ms
 keeps_others x [] xs apart = refl
 keeps_others x (m ∷ ms) xs apart =

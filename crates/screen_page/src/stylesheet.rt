@@ -33,14 +33,14 @@ main { flex: 1; display: flex; flex-direction: column; min-height: 0; padding: .
 
 #bars { flex: 1; display: grid; gap: 0 2.5rem; min-height: 0; overflow: hidden; }
 #bars { font-size: min(2rem, 22.5rem / var(--rows)); }
-#bars.two { grid-template-columns: repeat(2, minmax(0, 1fr)); }
+#bars.two { grid-template-columns: repeat(2, minmax(0, 1fr)); font-size: min(1.6rem, 22.5rem / var(--rows)); }
 .column { display: flex; flex-direction: column; min-width: 0; min-height: 0; }
 .column ol { flex: 1; display: grid; grid-auto-rows: minmax(0, 1fr); min-height: 0; max-height: calc(var(--rows) * 4.6rem); }
-.column li, .head { display: grid; grid-template-columns: 1.8em minmax(0, 1fr) var(--bar) var(--votes) 4.4em 6.8em; column-gap: .45em; }
+.column li, .head { display: grid; grid-template-columns: 1.8em minmax(0, 1fr) var(--bar) var(--votes) var(--change) 7.2em; column-gap: .45em; }
 .column li { align-items: center; border-top: 1px solid #999; }
 .one { --bar: 28rem; }
-.two { --bar: 11rem; }
-.two .column li, .two .head { grid-template-columns: 1.8em minmax(0, 1fr) var(--bar) var(--votes) 5.3em; }
+.two { --bar: 9rem; }
+.two .column li, .two .head { grid-template-columns: 1.8em minmax(0, 1fr) var(--bar) var(--votes) 5.4em; }
 .two .change, .two .standing small { display: none; }
 .head { flex: none; height: 1.9rem; }
 .head .track { grid-column: 3; background: none; }

@@ -205,6 +205,7 @@ module _ {S : Type 0} (state_of : Held S → State) (folder : Folder) (s : Offic
   order_leaves old new (asked.Do job) cut page (requests, answered, done) = job_leaves old new job cut page requests answered done new.closed refl
   order_leaves old new (asked.Copy path) cut page it = none_sent (asked.Copy path) cut page new.closed (state_of new.held) (it.0, refl, refl) it.1
   order_leaves old new asked.Journal cut page it = none_sent asked.Journal cut page new.closed (state_of new.held) (it.0, refl, refl) it.1
+  order_leaves old new (asked.Mend mending) cut page it = none_sent (asked.Mend mending) cut page new.closed (state_of new.held) (it.0, refl, refl) it.1
   order_leaves old new (asked.Refused failure) cut page it = none_sent (asked.Refused failure) cut page new.closed (state_of new.held) (it.0, refl, refl) (inl it.1)
   order_leaves old new (asked.Misread fault) cut page it = none_sent (asked.Misread fault) cut page new.closed (state_of new.held) (it.0, refl, refl) (inl it.1)
 

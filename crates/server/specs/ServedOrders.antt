@@ -19,6 +19,7 @@ use Rattle.desk.specs.Copying.{copied_text}
 use Rattle.desk.specs.Folders.{File, Folder}
 use Rattle.desk.specs.Headline.{IsDone}
 use Rattle.desk.specs.Journals.{IsJournalTold}
+use Rattle.desk.specs.Mends.{IsMendPage}
 use Rattle.desk.specs.Orders.{told}
 use Rattle.desk.specs.Pages.{Cut, IsShown, Outputs, Page, below, closed_page, failed, replied, words_page}
 use Rattle.desk.specs.Parts.{ComesTo}
@@ -67,14 +68,16 @@ IsForNone (order.Perform task.Init) = ⊤
 IsForNone (order.Perform task.Migrate) = ⊤
 IsForNone (order.Serve port connections origin codes public) = ⊤
 IsForNone (order.Codes path clerks with_office) = ⊤
+IsForNone (order.Slips path address) = ⊤
 IsForNone other = ⊥
 
--- What the words of an order for the served file ask for: a job, a copy, or the journal. Or why it isn't carried out: the words aren't an order; or the file is gone
--- (and isn't known to be whole).
+-- What the words of an order for the served file ask for: a job, a copy, the journal, or a new office from it. Or why it isn't carried out: the words aren't an order;
+-- or the file is gone (and isn't known to be whole).
 abbrev pub AsksSo : Option Bool → List Text → ServedOrder → Type 0
 AsksSo whole words (asked.Do job) = MeansOrder words (order.Perform (task.InOffice job))
 AsksSo whole words (asked.Copy path) = MeansOrder words (order.Copy path)
 AsksSo whole words asked.Journal = MeansOrder words order.Journal
+AsksSo whole words (asked.Mend mending) = MeansOrder words (order.Mend mending)
 AsksSo whole words (asked.Refused failure) =
     ((failure ≡ BeingServed) × ((o : Order) × MeansOrder words o × IsForNone o))
     ⊎ ((failure ≡ FileGone) × ((job : Job) × MeansOrder words (order.Perform (task.InOffice job))) × (whole ≡ Some true → ⊥))
@@ -130,11 +133,12 @@ IsCopyTold s page =
     ⊎ ((page ≡ below (replied (copied_text (holdings_of s))) (failed CopyFailed)) ⊎ ((failure : Failure) × (page ≡ failed failure)))
 
 -- The outcome of what is requested in a given state, and what it leaves of the office, whose connection was in the state `old`. A job is carried out in the office. For
--- a copy or the journal, the office is only read. An order that isn't carried out leaves it unchanged.
+-- a copy, the journal, or a new office from it, the office is only read. An order that isn't carried out leaves it unchanged.
 abbrev pub IsOrderOutcome : State → Bool → State → Folder → OfficeState → ServedOrder → Cut → Page → Type 0
 IsOrderOutcome old closed st folder s (asked.Do job) cut page = ComesTo cut page (IsDone old closed st folder s job)
 IsOrderOutcome old closed st folder s (asked.Copy path) cut page = IsCopyTold s page × IsReadAt s closed st
 IsOrderOutcome old closed st folder s asked.Journal cut page = IsJournalTold s page × IsReadAt s closed st
+IsOrderOutcome old closed st folder s (asked.Mend mending) cut page = IsMendPage s mending page × IsReadAt s closed st
 IsOrderOutcome old closed st folder s (asked.Refused failure) cut page = (page ≡ failed failure) × IsOpenAt s closed st
 IsOrderOutcome old closed st folder s (asked.Misread fault) cut page = (page ≡ words_page fault) × IsOpenAt s closed st
 
@@ -147,6 +151,7 @@ abbrev pub closed_office_page : ServedOrder → Page
 closed_office_page (asked.Do job) = closed_page
 closed_office_page (asked.Copy path) = closed_page
 closed_office_page asked.Journal = closed_page
+closed_office_page (asked.Mend mending) = closed_page
 closed_office_page (asked.Refused failure) = failed failure
 closed_office_page (asked.Misread fault) = words_page fault
 
@@ -186,6 +191,7 @@ PrintsAt {S} state_of folder s (asked.Do job) cut page sent last =
     × ComesTo cut page (λ course. IsDone (state_of old.held) new.closed (state_of new.held) folder s job course × AreAnswered course.requests course.answered sent last)
 PrintsAt state_of folder s (asked.Copy path) cut page sent last = IsCopyTold s page × (sent ≡ []) × (last ≡ [])
 PrintsAt state_of folder s asked.Journal cut page sent last = IsJournalTold s page × (sent ≡ []) × (last ≡ [])
+PrintsAt state_of folder s (asked.Mend mending) cut page sent last = IsMendPage s mending page × (sent ≡ []) × (last ≡ [])
 PrintsAt state_of folder s (asked.Refused failure) cut page sent last = (page ≡ failed failure) × (sent ≡ []) × (last ≡ [])
 PrintsAt state_of folder s (asked.Misread fault) cut page sent last = (page ≡ words_page fault) × (sent ≡ []) × (last ≡ [])
 

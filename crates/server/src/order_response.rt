@@ -9,6 +9,7 @@ ghost use Rattle.office.specs.Answers.{IsReadAt, WhenOpenAt};
 ghost use Rattle.connections.specs.Streams.{HasTaken, stream_of};
 ghost use Rattle.connections.specs.Clients.{IsSent};
 ghost use Rattle.order_protocol.specs.Messages.{order_message_entry, message_part_entries};
+ghost use Rattle.desk.specs.Mends.{IsMendPage};
 ghost use Rattle.desk.specs.Pages.{Shows, Tells, outputs_of};
 ghost use Rattle.server.specs.Settings.{settings_in};
 ghost use Rattle.server.specs.ServedOrders.{AsksSo, IsBareName, IsOrderOutcome, FollowsOrder, IsWholeMessage, IsCopyTold, IsMessage, IsResponseToOrder, folder_of, closed_office_page};
@@ -19,7 +20,7 @@ use crate::served_file::{Destination, ServedFile};
 use crate::served_order::{ServedOrder, is_for_file, read_message, served_order_by, words_of};
 use crate::server_settings::ServerSettings;
 use connections::{PendingResponse, Stream, VecSink};
-use desk::{Failure, Folder, follow, tell_failure, tell_words};
+use desk::{Failure, Folder, MendOrder, follow, tell_failure, tell_words};
 use office::Office;
 use order_protocol::{MessagePart, OrderMessage};
 use sqlite::Alter;
@@ -83,6 +84,7 @@ fn print_closed<O: Sink, E: Sink>(asked: &ServedOrder<'_>, out: &mut O, err: &mu
         ServedOrder::Do(_) => tell_failure(Failure::Office(Fault::Closed), err),
         ServedOrder::Copy(_) => tell_failure(Failure::Office(Fault::Closed), err),
         ServedOrder::Journal => tell_failure(Failure::Office(Fault::Closed), err),
+        ServedOrder::Mend(_) => tell_failure(Failure::Office(Fault::Closed), err),
     }
 }
 
@@ -96,9 +98,9 @@ fn is_bare_name(path: &str) -> bool
     !path.as_bytes().contains(&b'/')
 }
 
-/// Returns the destination of a copy: a path relative to the folder in which the order was typed. For an order from the
-/// console, that folder is empty, and the path must be a bare name. Returns `None` if it isn't, or if the folder's name isn't
-/// UTF-8.
+/// Returns the destination of a copy or of a new office: a path relative to the folder in which the order was typed. For an order
+/// from the console, that folder is empty, and the path must be a bare name. Returns `None` if it isn't, or if the folder's name
+/// isn't UTF-8.
 fn destination_of<'t>(folder: Option<&'t [u8]>, path: &'t str) -> Option<Destination<'t>>
     ensures { folder.entry ≡ None → IfSome result (λ to. (to.folder.now ≡ []) × IsBareName to.path.now) }
 {
@@ -137,6 +139,27 @@ fn copy_for_order<A: ServedFile, S: Alter, O: Sink, E: Sink>(
     }
 }
 
+/// Makes a new office from the journal, at the order's destination, and returns the status. If there is no such path, prints a
+/// failure.
+fn mend_for_order<A: ServedFile, S: Alter, O: Sink, E: Sink>(
+    order: &OrderContext<'_, A>,
+    mending: &MendOrder<'_>,
+    office: &mut Office<S>,
+    out: &mut O,
+    err: &mut E,
+) -> u8
+    requires out { O.failed out.old < 2 ^ 64 - 1 }
+    requires err { E.failed err.old < 2 ^ 64 - 1 }
+    ensures told { let outputs = outputs_of O.taken O.failed E.taken E.failed in Tells (outputs out.old err.old) (outputs out.new err.new) result
+        (λ _ page. WhenOpenAt (state S.Store) office.old office.new (λ s. IsMendPage s mending.now page × IsReadAt s office.new.closed (state S.Store office.new.held))) }
+    ensures clean { HasCleanDisk (state S.Store office.new.held) → HasCleanDisk (state S.Store office.old.held) }
+{
+    match destination_of(order.attached.folder, mending.path) {
+        Some(to) => order.served_file.mend(office, mending, to, out, err),
+        None => tell_failure(Failure::CopyFailed, err),
+    }
+}
+
 /// Carries out an order in an open office, and returns the status.
 fn do_open<A: ServedFile, S: Alter, O: Sink, E: Sink>(
     order: &OrderContext<'_, A>,
@@ -158,6 +181,7 @@ fn do_open<A: ServedFile, S: Alter, O: Sink, E: Sink>(
         ServedOrder::Do(job) => follow(order.alloc, office, job, &order.attached, out, err),
         ServedOrder::Copy(path) => copy_for_order(order, path, office, out, err),
         ServedOrder::Journal => order.served_file.journal(office, out, err),
+        ServedOrder::Mend(mending) => mend_for_order(order, mending, office, out, err),
     }
 }
 
@@ -292,8 +316,8 @@ fn respond_to_message<L: Stream, A: ServedFile, S: Alter>(
 /// and returns the stream.
 ///
 /// The response is fault 102, as for a file locked by another program, if the bytes aren't a message, or if the order comes
-/// from another version of the program or is for another file. For `init`, `migrate` and `serve`, the response says that the
-/// office is being served (111).
+/// from another version of the program or is for another file. For `init`, `migrate`, `serve`, `codes` and `forms slips`, the
+/// response says that the office is being served (111).
 pub fn answer_order<L: Stream, A: ServedFile, S: Alter>(
     alloc: Global,
     server_settings: ServerSettings<'_, A>,

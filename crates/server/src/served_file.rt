@@ -1,27 +1,29 @@
-//! The file of the office that is served, and what else an order needs: a new file for a copy, and an empty database for a
-//! trial run of a journal.
+//! The file of the office that is served, and what else an order needs: a new file for a copy or for another office, and empty
+//! databases for a trial run of a journal.
 
 ghost use Rattle.std.specs.Prelude.{◌≡◌, ◌-◌, ◌^◌, ◌<◌, Bool, IfSome, Option, true};
 ghost use Rattle.sqlite.specs.Held.{state};
 ghost use Rattle.sqlite.specs.State.{HasCleanDisk};
 ghost use Rattle.office.specs.Answers.{IsReadAt, WhenOpenAt};
 ghost use Rattle.desk.specs.Journals.{IsJournalTold};
+ghost use Rattle.desk.specs.Mends.{IsMendPage};
 ghost use Rattle.desk.specs.Pages.{Tells, outputs_of};
 ghost use Rattle.server.specs.ServedOrders.{IsCopyTold};
 
+use desk::MendOrder;
 use office::Office;
 use sqlite::Alter;
 use streams::Sink;
 
-/// The destination of a copy: a path relative to a folder.
+/// The destination of a copy or of a new office: a path relative to a folder.
 #[derive(Clone, Copy)]
 pub struct Destination<'a> {
     pub folder: &'a str,
     pub path: &'a str,
 }
 
-/// The file of the office that is served. It copies the open office to a new file, and prints its journal. The office stays
-/// open and is only read. The implementing program chooses the files.
+/// The file of the office that is served. It copies the open office to a new file, prints its journal, and makes another office
+/// from that journal in a new file. The office stays open and is only read. The implementing program chooses the files.
 pub trait ServedFile {
     /// Whether the file of the office is permanently known to be whole, or permanently known not to be. Nothing is known about
     /// a real file on this machine.
@@ -58,6 +60,22 @@ pub trait ServedFile {
         requires err { E.failed err.old < 2 ^ 64 - 1 }
         ensures told { let outputs = outputs_of O.taken O.failed E.taken E.failed in Tells (outputs out.old err.old) (outputs out.new err.new) result
             (λ _ page. WhenOpenAt (state S.Store) office.old office.new (λ s. IsJournalTold s page)) }
+        ensures stays { WhenOpenAt (state S.Store) office.old office.new (λ s. IsReadAt s office.new.closed (state S.Store office.new.held)) }
+        ensures clean { HasCleanDisk (state S.Store office.new.held) → HasCleanDisk (state S.Store office.old.held) };
+
+    /// Makes a new office from the journal of the open one, in a new file, and prints how it differs.
+    fn mend<S: Alter, O: Sink, E: Sink>(
+        &self,
+        office: &mut Office<S>,
+        asked: &MendOrder<'_>,
+        to: Destination<'_>,
+        out: &mut O,
+        err: &mut E,
+    ) -> u8
+        requires out { O.failed out.old < 2 ^ 64 - 1 }
+        requires err { E.failed err.old < 2 ^ 64 - 1 }
+        ensures told { let outputs = outputs_of O.taken O.failed E.taken E.failed in Tells (outputs out.old err.old) (outputs out.new err.new) result
+            (λ _ page. WhenOpenAt (state S.Store) office.old office.new (λ s. IsMendPage s asked.now page)) }
         ensures stays { WhenOpenAt (state S.Store) office.old office.new (λ s. IsReadAt s office.new.closed (state S.Store office.new.held)) }
         ensures clean { HasCleanDisk (state S.Store office.new.held) → HasCleanDisk (state S.Store office.old.held) };
 }

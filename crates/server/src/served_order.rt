@@ -8,7 +8,7 @@ ghost use Rattle.server.specs.ServedOrders.{AsksSo, IsForFile};
 
 use crate::server_settings::FileNumbers;
 use desk::version::VERSION;
-use desk::{Failure, Job, Order, Task, WordsFault, order};
+use desk::{Failure, Job, MendOrder, Order, Task, WordsFault, order};
 use order_protocol::{DecodeError, MessagePart, OrderMessage, decode_message};
 use std::alloc::Global;
 use store::Fault;
@@ -22,6 +22,8 @@ pub enum ServedOrder<'a> {
     Copy(&'a str),
     /// To print the journal of the office.
     Journal,
+    /// A new office from that journal, in a new file, with some orders left out and others replaced.
+    Mend(MendOrder<'a>),
     /// Nothing: the order isn't carried out, for the given reason.
     Refused(Failure),
     /// Nothing: its words aren't an order.
@@ -68,8 +70,8 @@ pub fn is_for_file(handed: &OrderMessage<'_>, file: FileNumbers) -> bool
         && handed.inode == file.inode
 }
 
-/// Returns what an order for the served file asks for. The orders `init`, `migrate` and `serve` are refused, because the office
-/// is being served.
+/// Returns what an order for the served file asks for. The orders `init`, `migrate`, `serve`, `codes` and `forms slips` are
+/// refused, because the office is being served. (On the command line, the program carries out the last two without the server.)
 pub fn served_order_by<'w>(alloc: Global, words: &'w [&'w str]) -> ServedOrder<'w>
     ensures { (whole : Option Bool) → AsksSo whole (map (λ word. word.now) words.entry.now) result }
 {
@@ -77,8 +79,12 @@ pub fn served_order_by<'w>(alloc: Global, words: &'w [&'w str]) -> ServedOrder<'
         Ok(Order::Perform(Task::InOffice(job))) => ServedOrder::Do(job),
         Ok(Order::Copy { path }) => ServedOrder::Copy(path),
         Ok(Order::Journal) => ServedOrder::Journal,
+        Ok(Order::Mend(asked)) => ServedOrder::Mend(asked),
         Ok(
-            Order::Perform(Task::Init | Task::Migrate) | Order::Serve { .. } | Order::Codes { .. },
+            Order::Perform(Task::Init | Task::Migrate)
+            | Order::Serve { .. }
+            | Order::Codes { .. }
+            | Order::Slips { .. },
         ) => { ServedOrder::Refused(Failure::BeingServed) }
         Err(fault) => ServedOrder::Misread(fault),
     }

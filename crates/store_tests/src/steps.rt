@@ -6,7 +6,7 @@ use super::clients::{Evening, LimitedWriter, Port, TestNetwork, joined, pages_of
 use super::loads::loads;
 use codes::Codes;
 use desk::perform::perform;
-use desk::{Failure, Folder, Order, copy_office, order, tell_failure, tell_words};
+use desk::{Failure, Folder, MendOrder, Order, copy_office, order, tell_failure, tell_words};
 use office::{Answer, Office, ReadError, RunOutcome, Work};
 use register::Request;
 use server::{Destination, FileNumbers, ServeError, ServedFile, ServerSettings, serve_connections};
@@ -155,9 +155,14 @@ fn give<S: Alter + Drop, O: Sink, E: Sink>(
             };
             perform(alloc, &task, conn, &folder, out, err)
         }
-        Ok(Order::Serve { .. } | Order::Copy { .. } | Order::Journal | Order::Codes { .. }) => {
-            (tell_failure(Failure::Output, err), conn)
-        }
+        Ok(
+            Order::Serve { .. }
+            | Order::Copy { .. }
+            | Order::Journal
+            | Order::Mend(_)
+            | Order::Codes { .. }
+            | Order::Slips { .. },
+        ) => { (tell_failure(Failure::Output, err), conn) }
         Err(fault) => (tell_words(&fault, out, err), conn),
     }
 }
@@ -227,7 +232,7 @@ fn work<S: Alter + Drop>(
         Err(ReadError::Refused(why)) => {
             format!(in alloc; "refused {}: {}\n", why.number(), why.text())?
         }
-        Err(ReadError::Fault(_)) => return Err(Fail::from("no work is told")),
+        Err(ReadError::Fault(_)) => return Err(Fail::from("the office returned no work")),
     };
     Ok((StepPrinted::printed_only(alloc, text), conn))
 }
@@ -284,7 +289,7 @@ fn terms_of(held: &Option<Codes>) -> ServerSettings<'_, Unaided> {
     }
 }
 
-/// A file that can have neither a copy nor a journal.
+/// A file that can have no copy and no journal, and from which no new office can be made.
 #[derive(Clone, Copy)]
 pub struct Unaided;
 
@@ -312,6 +317,17 @@ impl ServedFile for Unaided {
         err: &mut E,
     ) -> u8 {
         tell_failure(Failure::Office(Fault::Memory), err)
+    }
+
+    fn mend<S: Alter, O: Sink, E: Sink>(
+        &self,
+        _office: &mut Office<S>,
+        _asked: &MendOrder<'_>,
+        _to: Destination<'_>,
+        _out: &mut O,
+        err: &mut E,
+    ) -> u8 {
+        tell_failure(Failure::CopyFailed, err)
     }
 }
 

@@ -22,7 +22,7 @@ use Rattle.store.specs.EarlierKeyings.{KeyedRoundEntry}
 use Rattle.store.specs.Overviews.{WardView}
 use Rattle.office.specs.Index.{index_answer}
 use Rattle.office.specs.Overviews.{batches_answer, differences_answer, doubtful_answer, papers_answer, receipts_answer, wards_answer}
-use Rattle.office.specs.EarlierKeyings.{earlier_told}
+use Rattle.office.specs.EarlierKeyings.{earlier_answer}
 use Rattle.office.specs.Reads.{IsClosedReading, paper_answer, work_answer}
 use Rattle.office.specs.Sheets.{text_answer}
 use Rattle.office.specs.declared.answers.ReadError.{ReadError}
@@ -103,7 +103,7 @@ office_response s (read.Receipts actor) = read_response (λ receipts. data_respo
 abbrev pub reading_response : OfficeState → Resource → ResponseEntry
 reading_response s (Work clerk) = read_response (work_response clerk) (work_answer s clerk)
 reading_response s (Candidates clerk batch) = read_response (paper_response batch) (paper_answer s clerk batch)
-reading_response s (Keyed clerk batch) = read_response (earlier_response batch) (earlier_told s clerk batch)
+reading_response s (Keyed clerk batch) = read_response (earlier_response batch) (earlier_answer s clerk batch)
 reading_response s (Sheet ward) = read_response text_response (text_answer text.Sheet s ward)
 reading_response s (Declaration ward) = read_response text_response (text_answer text.Declaration s ward)
 reading_response s (Office its) = office_response s its

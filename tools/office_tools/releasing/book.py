@@ -4,7 +4,8 @@ import posixpath
 import re
 import subprocess
 
-from office_tools.releasing.facts import fail, filled
+from office_tools.office import wrong_if
+from office_tools.releasing.archives import filled
 
 # The pages in their order, by their paths below docs/.
 PAGES = ["officer/README", "officer/evening", "officer/by-words", "officer/when-it-says-no", "officer/putting-right",
@@ -12,17 +13,13 @@ PAGES = ["officer/README", "officer/evening", "officer/by-words", "officer/when-
          "formats/README", "formats/orders", "formats/files", "formats/sheets", "formats/ballots", "formats/records",
          "formats/http", "formats/console-api", "formats/screen-api", "formats/tables", "formats/faults"]
 
-
 def slug(text):
     """Returns the name of a heading in links, as the pages use it: lower case, hyphens for blanks, no other signs."""
     plain = html.unescape(re.sub(r"<[^>]+>", "", text))
     return re.sub(r"[^\w\- ]", "", plain.lower()).replace(" ", "-")
 
-
 def own_name(page):
-    """Returns the name of a page in links of the book."""
     return page.lower().replace("/", "-")
-
 
 def with_names(name, page):
     """Returns the page with a name for each heading, and its headings: (level, name, text)."""
@@ -37,7 +34,6 @@ def with_names(name, page):
 
     return re.sub(r"<h([1-6])>(.*?)</h\1>", named, page, flags=re.S), headings
 
-
 def with_links(name, page):
     """Returns the page with its links led to the other pages of the book; a link to anything else is left as its text."""
     def led(found):
@@ -46,7 +42,6 @@ def with_links(name, page):
         return f'<a href="#{own_name(to)}{"-" + heading if heading else ""}">{found[2]}</a>' if to in PAGES else found[2]
 
     return re.sub(r'<a href="([^"]*)">(.*?)</a>', led, page, flags=re.S)
-
 
 def book(docs, version):
     """Returns the book's text, of the pages in a folder, as Debian's cmark-gfm reads them. Each of its links leads somewhere."""
@@ -58,6 +53,6 @@ def book(docs, version):
         text += with_links(name, page)
         contents += "".join('<li class="l{}"><a href="#{}">{}</a></li>\n'.format(*found) for found in headings if found[0] in "12")
     text = filled("book.html", VERSION=version, CONTENTS=contents, PAGES=text)
-    if lost := set(re.findall(r' href="#([^"]+)"', text)) - set(re.findall(r' id="([^"]+)"', text)):
-        fail(f"links of the pages that lead nowhere: {', '.join(sorted(lost))}")
+    lost = set(re.findall(r' href="#([^"]+)"', text)) - set(re.findall(r' id="([^"]+)"', text))
+    wrong_if(lost, f"links of the pages that lead nowhere: {', '.join(sorted(lost))}")
     return text

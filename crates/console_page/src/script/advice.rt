@@ -86,6 +86,7 @@ const explainedError = (errors) => {
   const [, record] = / at record (\d+)/.exec(line) ?? [];
   const place = fileFault && record > 0 ? `Check line ${Number(record) + 1} of the file. ` : '';
   const [, fault] = /(?:^|: )fault (\d+): /.exec(line) ?? [];
+  if (/^not mended: /.test(line)) return {line, refusal: 0, fault: 0, todo: 'No office was made. Check the orders that you put right, then try again.'};
   const todo = refusal ? AFTER_REFUSAL[refusal] : fileFault ? AFTER_FILE_FAULT[fileFault] : fault ? AFTER_FAULT[fault] : '';
   return {line, refusal: Number(refusal ?? 0), fault: Number(fault ?? 0), todo: todo ? place + todo : 'Look up this message in the guide to refusals and faults.'};
 };

@@ -139,6 +139,7 @@ DRAW.batches = async (isNow) => {
   if (ward?.phase === 'keying' && !batches.length) at('give').open = true;
   drawGiven();
   fill(at('batch-filter'));
+  fill(at('batch-forms'), batches.length ? formButton('Download batch covers', 'covers', ward.ward) : '');
   if (!batches.length) { fill(at('batch-list')); return fill(at('batch-more')); }
   drawFilter(batches);
   const shown = batches.filter(isShown).sort((one, other) => RANKS[one.standing] - RANKS[other.standing] || one.batch - other.batch);

@@ -57,7 +57,8 @@ const drawLot = (ward, next, candidates) => {
     made('p', {}, ...listed(namesOf(candidates, next.tied)),
       ` had equal votes at every stage. Draw a lot among them in front of witnesses to decide ${lotTexts[next.decides][2]}. Then choose that candidate.`),
     made('fieldset', {}, made('legend', {}, lotTexts[next.decides][0]), ...choices),
-    made('p', {className: 'acts'}, button('Record lot', () => recordLot(ward, next, candidates), {key: 'lot', main: true, disabled: !drawn.candidate})),
+    made('p', {className: 'acts'}, button('Record lot', () => recordLot(ward, next, candidates), {key: 'lot', main: true, disabled: !drawn.candidate}),
+      formButton('Download form for the lot', 'lots', ward.ward)),
   ];
 };
 

@@ -59,15 +59,19 @@ const titleField = (key) => {
 // Downloads an HTML page with the election's title. A page that this one opened would have this one's policy, and so lose its style.
 const savePage = (name, ...words) => saveOutput(name, 'text/html', ...words, ...(stored('title') ? [`--title=${stored('title')}`] : []));
 
+// Returns the button that downloads a form of a ward, to print and fill in.
+const formButton = (text, form, ward) => button(text, () => saveOutput(`${form}-${ward}.html`, 'text/html', 'forms', form, ward), {key: `form ${form}`});
+
 const printsOf = (ward) => {
   const {ward: number} = ward;
   return [made('h3', {}, 'Print and download'), made('p', {className: 'row'}, titleField('title page')), made('p', {className: 'acts'},
     button('Download result page', () => savePage(`result-${number}.html`, 'page', number), {key: 'page', main: ward.phase === 'declared'}),
     ward.phase === 'declared' ? button('Print declaration', () => printOutput('Declaration', 'result', number), {key: 'print-result'}) : '',
+    ward.phase === 'declared' ? formButton('Download declaration form', 'declaration', number) : '',
     button('Print stage sheet', () => printOutput('Stage sheet', 'sheet', number), {key: 'print-sheet'}),
     button('Download stage sheet', () => saveOutput(`sheet-${number}.txt`, 'text/plain', 'sheet', number), {key: 'save-sheet'}),
     isUncontested(ward) ? '' : button('Download ballots', () => saveOutput(`ballots-${number}.txt`, 'text/plain', 'ballots', number), {key: 'save-ballots'})),
-  made('p', {className: 'hint'}, 'Open the downloaded result page in the browser to print and sign it.')];
+  made('p', {className: 'hint'}, 'Open a downloaded page in the browser to print it. Sign the result page.')];
 };
 
 "#;

@@ -89,7 +89,8 @@ const isOther = () => !at('other').hidden;
 
 const wardTexts = () => office.wards.map((it) => `${it.ward} ${it.seats} ${it.name}`);
 
-const OFFICE_TEXTS = {title: 'the election\u2019s title', copy: 'the time of the last copy', log: 'the list of orders sent from this browser'};
+const OFFICE_TEXTS = {title: 'the election\u2019s title', copy: 'the time of the last copy', log: 'the list of orders sent from this browser',
+  mending: 'the orders chosen to be put right', mended: 'the report on a new office'};
 
 // Returns how the officer knows what is stored under a name.
 const storedText = (name) => {
@@ -103,7 +104,7 @@ const storedText = (name) => {
 // ward, and the title fits if they have any ward in common. What was typed into a form is always kept.
 const unfitting = (seen) => {
   const shared = wardTexts().filter((it) => seen.wards.includes(it)).map((it) => `expected ${it.split(' ')[0]}`);
-  const names = [...storedNames(PENDING), ...storedNames('expected').filter((it) => !shared.includes(it)), ...storedNames('draft verdict'), 'copy', 'log'];
+  const names = [...storedNames(PENDING), ...storedNames('expected').filter((it) => !shared.includes(it)), ...storedNames('draft verdict'), 'copy', 'log', 'mending', 'mended'];
   return [...names, ...(shared.length ? [] : ['title'])].filter((it) => stored(it));
 };
 

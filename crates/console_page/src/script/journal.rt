@@ -7,15 +7,8 @@ const MOST_SHOWN = 100;
 
 const receiptFilter = {search: '', actor: '', most: MOST_SHOWN};
 
-const two = (number) => String(number).padStart(2, '0');
-
-const copyName = () => {
-  const now = new Date();
-  return `copy-${now.getFullYear()}-${two(now.getMonth() + 1)}-${two(now.getDate())}-${two(now.getHours())}${two(now.getMinutes())}${two(now.getSeconds())}.db`;
-};
-
 const makeCopy = async () => {
-  const name = copyName();
+  const name = `copy-${timeText()}.db`;
   await order(`make the copy ${name}`, ['copy', name]);
 };
 
@@ -51,9 +44,9 @@ const drawReceipts = async (isNow) => {
   if (!says) { fill(at('receipts'), made('p', {}, why)); return; }
   const words = receiptFilter.search.toLowerCase().split(/\s+/).filter(Boolean);
   const found = says.receipts.filter((it) => matches(it, words));
-  const rows = found.slice(0, receiptFilter.most).map((it) => row(it.actor ? `Teller ${it.actor}` : 'Office', made('code', {}, it.id), it.subject, it.reply));
+  const rows = found.slice(0, receiptFilter.most).map((it) => row(senderOf(it), made('code', {}, it.id), it.subject, it.reply, putRightButton(it, says.receipts)));
   fill(at('receipts'), made('p', {}, `${many(found.length, 'order')}${found.length > rows.length ? `, showing the first ${rows.length}` : ''}`),
-    rows.length ? table({className: 'plain small'}, ['Sent by', 'Id', 'Order', 'Reply'], rows) : '',
+    rows.length ? table({className: 'plain small'}, ['Sent by', 'Id', 'Order', 'Reply', ''], rows) : '',
     found.length > rows.length ? button('Show more', () => { receiptFilter.most += MOST_SHOWN; draw(); }, {key: 'more-receipts'}) : '');
 };
 
@@ -69,6 +62,7 @@ DRAW.journal = async (isNow) => {
   drawCopies();
   drawFiles();
   drawLog();
+  drawMending();
   await drawReceipts(isNow);
 };
 

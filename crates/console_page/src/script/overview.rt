@@ -30,6 +30,8 @@ const stepOf = (ward, next) => {
   const expected = expectedOf(ward.ward);
   const left = expected - (papersFor(ward)?.givenOut ?? expected);
   if (left > 0) return {rank: 5, text: `Give out the remaining ${papersOf(left)}`, to: 'batches', button: 'Give out'};
+  const twins = twinsIn(detailOf(ward).batches ?? []);
+  if (twins.length) return {rank: 2, text: `${twinsText(twins)}: check the piles before you seal the ward`, to: 'count', button: 'Check', isUrgent: true};
   return {rank: 3, text: 'All batches agreed, all doubtful papers judged: seal the ward', to: 'count', button: 'Seal'};
 };
 

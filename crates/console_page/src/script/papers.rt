@@ -19,6 +19,18 @@ const papersIn = (batches) => ({
   givenOut: sizesOf(batches, 'waiting', 'differing', 'taken'), keyed: sizesOf(batches, 'differing', 'taken'), agreed: sizesOf(batches, 'taken'),
 });
 
+// Returns the numbers of batches that have the same papers, a list for each such group. One of them may be in another ward.
+const twinsIn = (batches) => {
+  const groups = new Map();
+  for (const {batch, twin} of batches.filter((it) => it.twin)) {
+    const first = Math.min(batch, twin);
+    groups.set(first, new Set([...groups.get(first) ?? [], batch, twin]));
+  }
+  return [...groups.values()].map((group) => [...group].sort((one, other) => one - other));
+};
+
+const twinsText = (groups) => groups.map((group) => `Batches ${listed(group.map(String)).join('')} have the same papers`).join('. ');
+
 const readBatches = async (number) => {
   const [ward, {receipts}] = [wardAt(number), office];
   const found = await read(`wards/${number}/batches`);

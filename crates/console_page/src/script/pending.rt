@@ -18,9 +18,12 @@ let wakeUp = () => {};
 const isUnknown = (answer) => !answer || answer.status >= 500;
 const isDone = (answer) => answer?.status === 200 && Number.isInteger(answer.says?.status);
 
+// Orders that change nothing but the file that they make.
+const MAKES_FILE = /^(copy|mend)$/;
+
 // After these faults an order with an id may or may not have been done. The office does it once for its id, so it keeps that id.
 const OPEN_FAULTS = /(^|: )fault (101|102|103|104|107): /m;
-const leavesOpen = ({words}, {status, errors}) => status === 3 && OPEN_FAULTS.test(errors) && words[0] !== 'copy';
+const leavesOpen = ({words}, {status, errors}) => status === 3 && OPEN_FAULTS.test(errors) && !MAKES_FILE.test(words[0]);
 
 const pendingOrders = () => storedNames(PENDING).map((it) => stored(it)).filter((it) => it?.words).sort((one, other) => one.at - other.at);
 
@@ -119,7 +122,7 @@ const showResult = (order, {status, output, errors}) => {
   if (status === 0 && !note) return tell('done', `Done: ${order.title}.`, replies && made('code', {}, replies));
   if (status === 0) return tell('refused', `Nothing was changed: ${order.title}.`, made('code', {}, note), 'The id was used before with other details. Try again.');
   const {line, todo} = explainedError(errors);
-  const before = lines.length ? `Before that, ${many(lines.length, 'part')} of the order ${lines.length === 1 ? 'was' : 'were'} done.` : '';
+  const before = lines.length && !MAKES_FILE.test(order.words[0]) ? `Before that, ${many(lines.length, 'part')} of the order ${lines.length === 1 ? 'was' : 'were'} done.` : '';
   return tell('refused', `Not done: ${order.title}.`, made('code', {}, line), made('span', {}, made('b', {}, 'What to do: '), todo), before);
 };
 
@@ -130,6 +133,7 @@ const finish = async (order) => {
   unstore(PENDING + order.key);
   if (printed) {
     logged(order, printed);
+    if (order.words[0] === 'mend') storeMended(order, printed);
     if (order.words[0] === 'copy' && printed.status === 0) store('copy', {at: Date.now(), name: order.words[1]});
   }
   await refresh(true);

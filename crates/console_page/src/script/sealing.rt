@@ -15,42 +15,47 @@ const sealField = (ward) => {
 // Returns what must be true before a ward is sealed, and what only the officer can check.
 const sealChecks = (ward, batches) => {
   const expected = expectedOf(ward.ward);
-  const twins = batches.filter((it) => it.twin);
+  const twins = twinsIn(batches);
   const copy = stored('copy');
   const isCopied = Boolean(copy) && Date.now() - copy.at < COPY_AFTER;
   const {givenOut} = papersIn(batches);
   const differs = expected - givenOut;
+  const isWhole = expected > 0 && !differs;
   const compared = !expected ? 'The number of expected papers is missing. Enter it above.'
     : differs ? `${papersOf(givenOut)} given out, but ${expected.toLocaleString('en')} expected: ${papersOf(Math.abs(differs))} too ${differs > 0 ? 'few' : 'many'}.`
       : `All expected papers were given out: ${expected.toLocaleString('en')}`;
   return {
-    isReady: ward.taken === ward.batches && !ward.doubtful_open, isSure: expected > 0 && !differs && !twins.length,
+    isReady: ward.taken === ward.batches && !ward.doubtful_open, isSure: isWhole && !twins.length, isWhole, twins,
     list: made('ul', {className: 'checks'},
       check(ward.taken === ward.batches, `${ward.taken} of ${batchesOf(ward.batches)} agreed`),
       check(!ward.doubtful_open, ward.doubtful_open ? `${many(ward.doubtful_open, 'doubtful paper')} still to judge` : 'All doubtful papers are judged'),
-      check(expected > 0 && !differs, compared),
-      twins.length ? check(false, `Batch ${twins[0].batch} has the same papers as batch ${twins[0].twin}. Check that one pile wasn\u2019t keyed as two batches.`) : '',
+      check(isWhole, compared),
+      twins.length ? check(false, twinsText(twins)) : '',
       check(isCopied, isCopied ? `Copy made ${ago(copy.at)}` : 'No recent copy. Make one before you seal the ward.')),
   };
 };
 
+const twinsWarning = ({twins}) => (twins.length
+  ? warningText(made('b', {}, twinsText(twins)), '. If one pile was keyed as two batches, its papers count twice. Compare the piles before you seal the ward.') : null);
+
 const seal = async (ward, checks) => {
   const isSure = await askFirst(['Seal ', wardName(ward), '?'], checks.isSure ? 'Seal' : 'Seal anyway', checks.list.cloneNode(true),
-    checks.isSure ? null : warningText('Some checks failed. A batch that is missing now can never be counted.'),
+    twinsWarning(checks), checks.isWhole ? null : warningText('Some checks failed. A batch that is missing now can never be counted.'),
     'After the seal, no batch can be added and no paper can be changed. This can\u2019t be undone.');
   if (isSure) await orderWithId(`seal ward ${ward.ward} ${spokenName(ward.name)}`, ['seal', ward.ward]);
 };
 
 const drawSeal = async (ward) => {
-  const {says} = await readBatches(ward.ward);
-  const checks = sealChecks(ward, says?.batches ?? []);
+  const {says, why} = await readBatches(ward.ward);
+  if (!says) return [made('p', {}, why)];
+  const checks = sealChecks(ward, says.batches);
   const acts = [];
   if (ward.differing || ward.taken < ward.batches
-    || !ward.batches) acts.push(button('Batches', () => go('batches'), {key: 'to-batches', main: ward.differing > 0}));
+    || !ward.batches || checks.twins.length) acts.push(button('Batches', () => go('batches'), {key: 'to-batches', main: ward.differing > 0}));
   if (ward.doubtful_open) acts.push(button('Doubtful papers', () => go('doubtful'), {key: 'to-doubtful', main: true}));
   return [
     made('p', {className: 'said'}, checks.isReady && ward.batches ? 'Next: the seal' : 'Not ready to seal yet'),
-    made('p', {className: 'row'}, sealField(ward)), checks.list,
+    twinsWarning(checks), made('p', {className: 'row'}, sealField(ward)), checks.list,
     made('p', {className: 'acts'},
       button(`Seal ward ${ward.ward}`, () => seal(ward, checks), {key: 'seal', main: checks.isReady && checks.isSure, disabled: !checks.isReady}), ...acts,
       button('Make a copy', makeCopy, {key: 'copy-first'})),

@@ -52,6 +52,7 @@ DRAW.doubtful = async (isNow) => {
   if (!isNow()) return;
   if (!says) {
     fill(at('judging'), made('p', {}, why ?? 'There are no wards yet.'));
+    fill(at('doubtful-forms'));
     return fill(at('judged'));
   }
   const open = says.papers.filter((it) => it.verdict === 'open');
@@ -60,6 +61,7 @@ DRAW.doubtful = async (isNow) => {
   const isOpen = open.some((it) => it.batch === judging.batch && it.paper === judging.paper) && judging.ward === ward.ward;
   if (!isOpen && open.length) choosePaper(ward.ward, open[0]);
   fill(at('judging'), open.length ? drawPaper(ward, open) : noDoubtful(ward, says.papers));
+  fill(at('doubtful-forms'), says.papers.length ? formButton('Download form for the verdicts', 'adjudication', ward.ward) : '');
   return fill(at('judged'), verdictList(ward, says));
 };
 

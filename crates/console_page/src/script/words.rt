@@ -49,6 +49,14 @@ const ago = (time) => {
   return hours < 48 ? `${many(hours, 'hour')} ago` : `${many(Math.floor(hours / 24), 'day')} ago`;
 };
 
+const two = (number) => String(number).padStart(2, '0');
+
+// Returns the time for a file's name.
+const timeText = () => {
+  const now = new Date();
+  return `${now.getFullYear()}-${two(now.getMonth() + 1)}-${two(now.getDate())}-${two(now.getHours())}${two(now.getMinutes())}${two(now.getSeconds())}`;
+};
+
 const clock = (time) => new Date(time).toLocaleTimeString('en-GB', {hour: '2-digit', minute: '2-digit'});
 
 // Returns the rows of a CSV text. Fields in double quotes may hold commas, line breaks and doubled quotes.

@@ -1,8 +1,15 @@
--- Proof that `dispatch_order` meets its contract for the order to serve: the order's words are those of the serving.
+-- Proof that `dispatch_order` meets its contract for the order to serve, whose words are those of the serving, and for the order to mend.
 use Rattle.std.proofs.Common.{◌≡◌, ◌∙◌, ap, refl, subst, sym}
+use Rattle.sqlite.specs.Effect.{Database}
 use Rattle.sqlite.specs.Held.{state}
+use Rattle.sqlite.specs.State.{HasCleanDisk}
+use Rattle.register.specs.Offices.{OfficeState}
+use Rattle.tables.specs.Contents.{RestsAt}
+use Rattle.store.specs.Openings.{IsLeftAt}
 use Rattle.connections.specs.Streams.{stream_of}
-use Rattle.desk.specs.Pages.{IsErrorTold}
+use Rattle.desk.specs.Mends.{IsMendPage}
+use Rattle.desk.specs.Pages.{IsErrorTold, Tells, outputs_of}
+use Rattle.desk.specs.declared.orders.MendOrder.{MendOrder}
 use Rattle.desk.specs.declared.orders.Order.{Order}
 use Rattle.desk.specs.declared.orders.Order.TheVariants as order
 use Rattle.count_office.specs.Serving.{ServesOrder}
@@ -30,3 +37,10 @@ returns-in-Serve-clause-serves g c = λ serving is.
           (same_serving its serving (sym c.in-Serve.is ∙ is))
           c.serve.ensures,
     )
+
+pub returns-in-Mend-clause-mends : goal.returns-in-Mend-clause-mends
+returns-in-Mend-clause-mends g c = λ asked is.
+    let outputs = outputs_of g.O.Sink.taken g.O.Sink.failed g.E.Sink.taken g.E.Sink.failed in
+    subst (λ (m : MendOrder). Tells (outputs c.args.out.now c.args.err.now) (outputs c.mend.new.out c.mend.new.err) c.mend.result.0
+    (λ _ page. HasCleanDisk (state g.S.Store c.mend.result.1) → (db : Database) → RestsAt db (state g.S.Store c.args.conn) → (s : OfficeState) → IsLeftAt s db → IsMendPage s m page))
+    (cc) c.mend.ensures.told

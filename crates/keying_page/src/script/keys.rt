@@ -136,7 +136,7 @@ const goOn = () => {
   return firstOpen() < 0 ? tooMany() : goTo(firstOpen());
 };
 
-// Goes to the next paper, after finishing one that is begun.
+// Goes to the first paper that isn't keyed, or to the end of the batch. If that paper is at the cursor and begun, Enter must end it first.
 const toNext = () => (row().state === BEGUN && firstOpen() === draft.at ? `Paper ${paper()} isn\u2019t ended. Enter ends it.` : goOn());
 
 // Finishes a paper and goes to the next; after the last, to the first that was left out.

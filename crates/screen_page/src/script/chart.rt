@@ -43,8 +43,11 @@ const makeChart = (count, key, part) => {
     quotaLine(count, most, true))), made('ol', {}, ...rows.slice(first, first + length).map((it) => rowOf(it, count, most))));
   chart.element = made('div', {id: 'bars', className: columns === 2 ? 'two' : 'one'}, ...[0, length].slice(0, columns).map(columnFrom));
   chart.element.style.setProperty('--rows', String(length));
-  // The width of a figure: its digits before the point, and six small signs.
-  chart.element.style.setProperty('--votes', `${2.5 + 0.57 * String(Math.floor(most / 100000)).length}em`);
+  // The width of a figure, in digits: those before the point, and six small signs, which are as wide as four digits. In some fonts bold
+  // digits are a tenth wider. A change has a sign, but isn't bold.
+  const digits = String(Math.floor(most / 100000)).length;
+  chart.element.style.setProperty('--votes', `${1.1 * (digits + 4)}ch`);
+  chart.element.style.setProperty('--change', `${0.75 * (digits + 5.4)}ch`);
   for (const it of rows) {
     const units = part > 1 ? votesAt(count.stages[part - 2], it.candidate) : 0;
     chart.rows.get(it.candidate).bar.style.width = shareOf(units, most);

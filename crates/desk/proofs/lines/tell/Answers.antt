@@ -1,8 +1,8 @@
 -- Proof that `tell` meets its contract.
-use Rattle.std.proofs.Common.{refl}
-use Rattle.desk.specs.Pages.{failed, refused, unjournalled, unread, unsealed}
+use Rattle.std.proofs.Common.{refl, string_bytes}
+use Rattle.desk.specs.Pages.{failed, refused, unformed, unjournalled, unmended, unread, unsealed}
 use Rattle.desk.specs.declared.lines.Failure.TheVariants.{Office}
-use Rattle.desk.proofs.PageLemmas.{front_shown, printed_shown}
+use Rattle.desk.proofs.PageLemmas.{front_shown, fronted_shown, printed_shown}
 use Rattle.desk.proofs.lines.tell.Goals as goal
 
 pub returns-in-Ready : goal.returns-in-Ready
@@ -46,3 +46,13 @@ pub returns-in-Unsealed : goal.returns-in-Unsealed
 returns-in-Unsealed g c =
     rw c.in-Unsealed.is (front_shown g.O.Sink.taken g.O.Sink.failed g.E.Sink.taken g.E.Sink.failed c.args.line _ _ _
     (unsealed c.in-Unsealed.given_out c.in-Unsealed.expected) c.tell_unsealed.result _ _ refl refl c.tell_unsealed.ensures)
+
+pub returns-in-Unformed : goal.returns-in-Unformed
+returns-in-Unformed g c =
+    rw c.in-Unformed.is (front_shown g.O.Sink.taken g.O.Sink.failed g.E.Sink.taken g.E.Sink.failed c.args.line _ _ _
+    (unformed c.in-Unformed.why) c.tell_unformed.result _ _ refl refl c.tell_unformed.ensures)
+
+pub returns-in-Unmended : goal.returns-in-Unmended
+returns-in-Unmended g c =
+    rw c.in-Unmended.is (fronted_shown g.O.Sink.taken g.O.Sink.failed g.E.Sink.taken g.E.Sink.failed c.args.line _ _ _
+    (unmended (string_bytes c.in-Unmended.text)) c.tell_unmended.result refl (rw c.as_str-in-Unmended.ensures.value at c.tell_unmended.ensures))

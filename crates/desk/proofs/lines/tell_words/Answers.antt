@@ -1,7 +1,7 @@
 -- Proof that `tell_words` meets its contract.
 use Rattle.std.proofs.Common.{refl}
 use Rattle.desk.specs.Pages.{words_page}
-use Rattle.desk.specs.declared.words.WordsFault.TheVariants.{Digest, Origin, TitleAlone, Verdict}
+use Rattle.desk.specs.declared.words.WordsFault.TheVariants.{Digest, Form, Origin, TitleAlone, Verdict}
 use Rattle.desk.proofs.PageLemmas.{error_shown}
 use Rattle.desk.proofs.lines.tell_words.Goals as goal
 
@@ -20,3 +20,7 @@ pub returns-in-TitleAlone : goal.returns-in-TitleAlone
 returns-in-TitleAlone g c =
     rw c.in-TitleAlone.is (error_shown g.O.Sink.taken g.O.Sink.failed g.E.Sink.taken g.E.Sink.failed _ _ _ (words_page TitleAlone) c.tell_error-in-TitleAlone.result refl
     c.tell_error-in-TitleAlone.ensures)
+
+pub returns-in-Form : goal.returns-in-Form
+returns-in-Form g c =
+    rw c.in-Form.is (error_shown g.O.Sink.taken g.O.Sink.failed g.E.Sink.taken g.E.Sink.failed _ _ _ (words_page Form) c.tell_error-in-Form.result refl c.tell_error-in-Form.ensures)

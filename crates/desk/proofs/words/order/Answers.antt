@@ -63,6 +63,9 @@ returns-in-Err-BadDigest-clause-denies c = taken_is_right c.in-Ok.command (map (
 pub returns-in-Err-TitleAlone-clause-denies : goal.returns-in-Err-TitleAlone-clause-denies
 returns-in-Err-TitleAlone-clause-denies c = taken_is_right c.in-Ok.command (map (λ s. s.now) c.args.words.now) c.in-Ok.ensures.app c.in-Ok-try_get_matches_from.ensures.kinds
 
+pub returns-in-Err-BadForm-clause-denies : goal.returns-in-Err-BadForm-clause-denies
+returns-in-Err-BadForm-clause-denies c = taken_is_right c.in-Ok.command (map (λ s. s.now) c.args.words.now) c.in-Ok.ensures.app c.in-Ok-try_get_matches_from.ensures.kinds
+
 pub returns-in-Err-BadDigest-clause-err : goal.returns-in-Err-BadDigest-clause-err
 returns-in-Err-BadDigest-clause-err c = λ taken.
     let parse = c.in-Ok-try_get_matches_from in
@@ -73,7 +76,13 @@ pub returns-in-Err-TitleAlone-clause-err : goal.returns-in-Err-TitleAlone-clause
 returns-in-Err-TitleAlone-clause-err c = λ taken.
     let parse = c.in-Ok-try_get_matches_from in
     let same = matches_are_the_words c.in-Ok.command parse.matches (map (λ s. s.now) c.args.words.now) c.in-Ok.ensures.app parse.ensures.matches in
-    inr (inr (inr (inr (refl, ap meaning (sym same) ∙ c.in-Err-TitleAlone.ensures.title_alone (ap Err c.in-Err-TitleAlone.field-0-is)))))
+    inr (inr (inr (inr (inl (refl, ap meaning (sym same) ∙ c.in-Err-TitleAlone.ensures.title_alone (ap Err c.in-Err-TitleAlone.field-0-is))))))
+
+pub returns-in-Err-BadForm-clause-err : goal.returns-in-Err-BadForm-clause-err
+returns-in-Err-BadForm-clause-err c = λ taken.
+    let parse = c.in-Ok-try_get_matches_from in
+    let same = matches_are_the_words c.in-Ok.command parse.matches (map (λ s. s.now) c.args.words.now) c.in-Ok.ensures.app parse.ensures.matches in
+    inr (inr (inr (inr (inr (refl, ap meaning (sym same) ∙ c.in-Err-BadForm.ensures.bad_form (ap Err c.in-Err-BadForm.field-0-is))))))
 
 pub returns-clause-err : goal.returns-clause-err
 returns-clause-err c = λ taken.
@@ -96,6 +105,10 @@ returns-in-Err-BadDigest-clause-version c =
 
 pub returns-in-Err-TitleAlone-clause-version : goal.returns-in-Err-TitleAlone-clause-version
 returns-in-Err-TitleAlone-clause-version c =
+    λ asked. absurd (none_asked _ (taken_is_right c.in-Ok.command (map (λ s. s.now) c.args.words.now) c.in-Ok.ensures.app c.in-Ok-try_get_matches_from.ensures.kinds) asked)
+
+pub returns-in-Err-BadForm-clause-version : goal.returns-in-Err-BadForm-clause-version
+returns-in-Err-BadForm-clause-version c =
     λ asked. absurd (none_asked _ (taken_is_right c.in-Ok.command (map (λ s. s.now) c.args.words.now) c.in-Ok.ensures.app c.in-Ok-try_get_matches_from.ensures.kinds) asked)
 
 pub returns-clause-version : goal.returns-clause-version
@@ -124,3 +137,9 @@ returns-in-Err-TitleAlone-clause-none c =
     let parse = c.in-Ok-try_get_matches_from in
     let same = matches_are_the_words c.in-Ok.command parse.matches (map (λ s. s.now) c.args.words.now) c.in-Ok.ensures.app parse.ensures.matches in
     ap meaning (sym same) ∙ c.in-Err-TitleAlone.ensures.title_alone (ap Err c.in-Err-TitleAlone.field-0-is)
+
+pub returns-in-Err-BadForm-clause-none : goal.returns-in-Err-BadForm-clause-none
+returns-in-Err-BadForm-clause-none c =
+    let parse = c.in-Ok-try_get_matches_from in
+    let same = matches_are_the_words c.in-Ok.command parse.matches (map (λ s. s.now) c.args.words.now) c.in-Ok.ensures.app parse.ensures.matches in
+    ap meaning (sym same) ∙ c.in-Err-BadForm.ensures.bad_form (ap Err c.in-Err-BadForm.field-0-is)

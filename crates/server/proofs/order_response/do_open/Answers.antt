@@ -14,3 +14,8 @@ pub returns-in-Journal-clause-did : goal.returns-in-Journal-clause-did
 returns-in-Journal-clause-did g c =
     let told = c.journal.ensures.told in
     record { page = told.page; cut = told.cut; shown = told.shown; is = λ clean is_open s at. rw c.in-Journal.is (told.is clean is_open s at, c.journal.ensures.stays clean is_open s at) }
+
+pub returns-in-Mend-clause-did : goal.returns-in-Mend-clause-did
+returns-in-Mend-clause-did g c =
+    let told = c.mend_for_order.ensures.told in
+    record { page = told.page; cut = told.cut; shown = told.shown; is = λ clean is_open s at. rw c.in-Mend.is (told.is clean is_open s at) }

@@ -19,3 +19,7 @@ returns-in-Copy g c =
 pub returns-in-Journal : goal.returns-in-Journal
 returns-in-Journal g c =
     rw c.in-Journal.is (error_shown g.O.Sink.taken g.O.Sink.failed g.E.Sink.taken g.E.Sink.failed _ _ _ closed_page c.tell_failure-in-Journal.result refl c.tell_failure-in-Journal.ensures)
+
+pub returns-in-Mend : goal.returns-in-Mend
+returns-in-Mend g c =
+    rw c.in-Mend.is (error_shown g.O.Sink.taken g.O.Sink.failed g.E.Sink.taken g.E.Sink.failed _ _ _ closed_page c.tell_failure-in-Mend.result refl c.tell_failure-in-Mend.ensures)

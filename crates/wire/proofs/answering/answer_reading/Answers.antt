@@ -4,7 +4,7 @@ use Rattle.sqlite.specs.Held.{state}
 use Rattle.std.specs.Prelude.{option_map, string_bytes}
 use Rattle.register.specs.Status.{paper_entry}
 use Rattle.store.specs.EarlierKeyings.{keyed_round_entry}
-use Rattle.office.specs.EarlierKeyings.{earlier_told}
+use Rattle.office.specs.EarlierKeyings.{earlier_answer}
 use Rattle.office.specs.Reads.{paper_answer}
 use Rattle.office.specs.Sheets.{text_answer}
 use Rattle.office.specs.declared.sheets.WardText.TheVariants as text
@@ -32,7 +32,7 @@ returns-in-Candidates-clause-answers g c = λ clean open_before s at.
 
 pub returns-in-Keyed-clause-answers : goal.returns-in-Keyed-clause-answers
 returns-in-Keyed-clause-answers g c = λ clean open_before s at.
-    Readies-read s c.args.what (earlier_response c.in-Keyed.batch) (option_map keyed_round_entry) (earlier_told s c.in-Keyed.clerk c.in-Keyed.batch) c.earlier_keying.result c.answer_earlier.result _ _
+    Readies-read s c.args.what (earlier_response c.in-Keyed.batch) (option_map keyed_round_entry) (earlier_answer s c.in-Keyed.clerk c.in-Keyed.batch) c.earlier_keying.result c.answer_earlier.result _ _
     (ap (reading_response s) c.in-Keyed.is) (c.earlier_keying.ensures.reads clean open_before s at) c.answer_earlier.ensures
 
 pub returns-in-Office-clause-answers : goal.returns-in-Office-clause-answers

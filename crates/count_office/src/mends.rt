@@ -1,0 +1,125 @@
+//! Makes a new office from the journal of another, in new files on this machine. The other is an office that an order opened, or one
+//! that is being served.
+
+ghost use Rattle.std.specs.Prelude.{◌-◌, ◌^◌, ◌<◌, IfOk};
+ghost use Rattle.sqlite.specs.Effect.{Database};
+ghost use Rattle.sqlite.specs.Held.{state};
+ghost use Rattle.sqlite.specs.State.{HasCleanDisk};
+ghost use Rattle.sqlite.specs.Steps.{IsEmpty, over_memory};
+ghost use Rattle.register.specs.Offices.{OfficeState};
+ghost use Rattle.tables.specs.Contents.{RestsAt};
+ghost use Rattle.tables.specs.Reading.{OnlyReads};
+ghost use Rattle.store.specs.Openings.{IsLeftAt};
+ghost use Rattle.office.specs.Answers.{IsReadAt, WhenOpenAt};
+ghost use Rattle.desk.specs.Mends.{IsMendPage};
+ghost use Rattle.desk.specs.Pages.{Tells, outputs_of};
+
+use crate::copies::{failure_of, finish, why_not_begun};
+use crate::is_busy;
+use crate::new_file::NewFile;
+use desk::{Failure, MendOrder, MendTrial, mend_open, tell_failure};
+use office::Office;
+use sqlite::{Alter, Connection, FileStore, MemStore, Wary};
+use sqlite_disk::Disk;
+use std::alloc::{AllocError, Global};
+use store::Fault;
+use streams::Sink;
+
+/// Returns two empty databases in memory.
+fn trial_in_memory(alloc: Global) -> Result<MendTrial<MemStore>, AllocError>
+    ensures { IfOk result (λ trial. IsEmpty (state over_memory trial.journal) × IsEmpty (state over_memory trial.mended)) }
+{
+    let journal = Connection::open_in_memory(alloc)?;
+    let mended = Connection::open_in_memory(alloc)?;
+    Ok(MendTrial { journal, mended })
+}
+
+/// Makes a new office from the journal of an open one, which stays open, in the files that were made for it. Closes those files.
+fn fill_mended<S: Alter, D: Disk + Drop, O: Sink, E: Sink>(
+    rt: &HostRuntime,
+    new_file: &NewFile,
+    office: &mut Office<S>,
+    asked: &MendOrder<'_>,
+    mut made: Connection<FileStore<D>>,
+    out: &mut O,
+    err: &mut E,
+) -> u8
+    requires out { O.failed out.old < 2 ^ 64 - 1 }
+    requires err { E.failed err.old < 2 ^ 64 - 1 }
+    ensures told { let outputs = outputs_of O.taken O.failed E.taken E.failed in Tells (outputs out.old err.old) (outputs out.new err.new) result
+        (λ _ page. WhenOpenAt (state S.Store) office.old office.new (λ s. IsMendPage s asked.now page)) }
+    ensures stays { WhenOpenAt (state S.Store) office.old office.new (λ s. IsReadAt s office.new.closed (state S.Store office.new.held)) }
+    ensures reads { OnlyReads (state S.Store office.old.held) (state S.Store office.new.held) }
+{
+    if let Some(failure) = why_not_begun(rt, new_file) {
+        return tell_failure(failure, err);
+    }
+    let trial = match trial_in_memory(rt.alloc()) {
+        Ok(trial) => trial,
+        Err(AllocError) => {
+            new_file.clear(rt);
+            return tell_failure(Failure::Office(Fault::Memory), err);
+        }
+    };
+    let (status, state, tried) = mend_open(rt.alloc(), office, asked, trial, &mut made, out, err);
+    let MendTrial {
+        journal: _,
+        mended: _,
+    } = tried;
+    finish(rt, new_file, made, status, state, err)
+}
+
+/// Makes a new office from the journal of an open one, at a path where nothing exists yet. The open one stays open and is only read.
+pub fn mend_served<S: Alter, O: Sink, E: Sink>(
+    rt: &HostRuntime,
+    office: &mut Office<S>,
+    asked: &MendOrder<'_>,
+    path: &str,
+    out: &mut O,
+    err: &mut E,
+) -> u8
+    requires out { O.failed out.old < 2 ^ 64 - 1 }
+    requires err { E.failed err.old < 2 ^ 64 - 1 }
+    ensures told { let outputs = outputs_of O.taken O.failed E.taken E.failed in Tells (outputs out.old err.old) (outputs out.new err.new) result
+        (λ _ page. WhenOpenAt (state S.Store) office.old office.new (λ s. IsMendPage s asked.now page)) }
+    ensures stays { WhenOpenAt (state S.Store) office.old office.new (λ s. IsReadAt s office.new.closed (state S.Store office.new.held)) }
+    ensures reads { OnlyReads (state S.Store office.old.held) (state S.Store office.new.held) }
+{
+    let new_file = match NewFile::make(rt, path) {
+        Ok(new_file) => new_file,
+        Err(failure) => return tell_failure(failure, err),
+    };
+    match Connection::open_from(rt, path, false, Wary) {
+        Ok(made) => fill_mended(rt, &new_file, office, asked, made, out, err),
+        Err((error, left)) => {
+            if !is_busy(&error) {
+                new_file.clear(rt);
+            }
+            drop(left);
+            tell_failure(failure_of(error), err)
+        }
+    }
+}
+
+/// Makes a new office from the journal of the office in a connection's database, which is only read.
+pub fn mend<S: Alter, O: Sink, E: Sink>(
+    rt: &HostRuntime,
+    conn: Connection<S>,
+    asked: &MendOrder<'_>,
+    out: &mut O,
+    err: &mut E,
+) -> (u8, Connection<S>)
+    requires out { O.failed out.old < 2 ^ 64 - 1 }
+    requires err { E.failed err.old < 2 ^ 64 - 1 }
+    ensures told { let outputs = outputs_of O.taken O.failed E.taken E.failed in Tells (outputs out.old err.old) (outputs out.new err.new) result.0
+        (λ _ page. HasCleanDisk (state S.Store result.1) → (db : Database) → RestsAt db (state S.Store conn) → (s : OfficeState) → IsLeftAt s db → IsMendPage s asked.now page) }
+    ensures reads { OnlyReads (state S.Store conn) (state S.Store result.1) }
+{
+    match Office::open_from(rt.alloc(), conn) {
+        Ok(mut office) => {
+            let status = mend_served(rt, &mut office, asked, asked.path, out, err);
+            (status, office.into_connection())
+        }
+        Err((fault, conn)) => (tell_failure(Failure::Office(fault), err), conn),
+    }
+}

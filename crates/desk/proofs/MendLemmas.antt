@@ -1,0 +1,95 @@
+-- Making a new office from the journal of another.
+use Rattle.std.proofs.Common.{◌≡◌, ◌⊎◌, ◌∙◌, ◌++◌, inl, inr, ℕ, Bool, List, [], ◌∷◌, map, Result, Ok, Err, codes, string_bytes, refl, sym, ap}
+use Rattle.clap.specs.Words.{Text}
+use Rattle.sqlite.specs.State.{State}
+use Rattle.register.specs.Machine.{Outcome, accepted, kept, refused}
+use Rattle.register.specs.Offices.{OfficeState}
+use Rattle.register.specs.declared.refusal.Reason.{Reason}
+use Rattle.store.specs.Overviews.{WardView, ward_views}
+use Rattle.office.specs.Answers.{IsReadAt, Told, again, done, no, told_of}
+use Rattle.office.specs.Overviews.{wards_answer}
+use Rattle.office.specs.Reads.{Read}
+use Rattle.office.specs.declared.answers.ReadError.{ReadError}
+use Rattle.office.specs.declared.answers.ReadError.TheVariants.{Refused, Fault}
+use Rattle.mending.specs.Mending.{IsPoint, MendPoint, sent_of}
+use Rattle.mending.specs.Reports.{end_line}
+use Rattle.mending.specs.declared.changes.Changes.{Changes}
+use Rattle.mending.specs.declared.mended.Mended.{Mended}
+use Rattle.mending.specs.declared.recipients.Sent.{Sent}
+use Rattle.mending.specs.declared.recipients.Sent.TheVariants.{Accepted, Known, Denied}
+use Rattle.desk.specs.Mends.{IsTried, IsUnmade, differing, mended_text, ward_lines}
+use Rattle.desk.specs.Overviews.{ward_line}
+use Rattle.desk.specs.Pages.{Page}
+use Rattle.desk.specs.declared.copying.CopyState.{CopyState}
+
+-- ---- sending an order: its outcome is that of the machine
+
+pub sent_done : (o : Outcome) (reply : List ℕ) → done reply ≡ told_of o → Accepted ≡ sent_of o
+sent_done (accepted next words) reply told = refl
+sent_done (kept words) reply told = let bad : done reply ≡ again words = told in absurd (cc bad)
+sent_done (refused why) reply told = let bad : done reply ≡ no why = told in absurd (cc bad)
+
+pub sent_again : (o : Outcome) (reply : List ℕ) → again reply ≡ told_of o → Known ≡ sent_of o
+sent_again (accepted next words) reply told = let bad : again reply ≡ done words = told in absurd (cc bad)
+sent_again (kept words) reply told = refl
+sent_again (refused why) reply told = let bad : again reply ≡ no why = told in absurd (cc bad)
+
+-- the reason in an answer that refuses
+abbrev reason_in : Reason → Told → Reason
+reason_in other (done reply) = other
+reason_in other (again reply) = other
+reason_in other (no why) = why
+
+pub sent_no : (o : Outcome) (why : Reason) → no why ≡ told_of o → Denied why ≡ sent_of o
+sent_no (accepted next words) why told = let bad : no why ≡ done words = told in absurd (cc bad)
+sent_no (kept words) why told = let bad : no why ≡ again words = told in absurd (cc bad)
+sent_no (refused other) why told = let same : no why ≡ no other = told in ap (λ w. Denied (reason_in why w)) same
+
+-- ---- the wards of an office
+
+-- whatever the result of a read, the office is open in its state, or it's closed and a stop leaves its state
+pub read_at : {X Y : Type 0} (view : Y → X) (s : OfficeState) (told : Result X Reason) (found : Result Y ReadError) (closed : Bool) (st : State) → Read view s told found closed st
+    → IsReadAt s closed st
+read_at view s told (Ok y) closed st read = inl read.1
+read_at view s told (Err (Refused why)) closed st read = inl read.1
+read_at view s told (Err (Fault fault)) closed st (inl stays) = inl stays.open_at
+read_at view s told (Err (Fault fault)) closed st (inr shut) = inr (shut.is_closed, shut.leaves)
+
+-- the value of a result
+abbrev value_in : {X E : Type 0} → X → Result X E → X
+value_in other (Ok x) = x
+value_in other (Err e) = other
+
+lines_of_views : {X V : Type 0} (text : V → Text) (view : X → V) (xs : List X) → map (λ x. text (view x)) xs ≡ map text (map view xs)
+lines_of_views text view [] = refl
+lines_of_views text view (x ∷ xs) = ap (λ rest. text (view x) ∷ rest) (lines_of_views text view xs)
+
+-- the lines on the wards that were read are those of the state
+pub lines_read : {X : Type 0} (view : X → WardView) (s : OfficeState) (wards : List X) (lines : List Text) → lines ≡ map (λ w. ward_line (view w)) wards
+    → wards_answer s ≡ Ok (map view wards) → lines ≡ ward_lines s
+lines_read view s wards lines is read =
+    is ∙ lines_of_views ward_line view wards ∙ ap (map ward_line) (sym (ap (value_in (map view wards)) read))
+
+-- ---- what is printed
+
+-- what is printed, given the text so far, the lines on wards of both offices, and the numbers of orders
+abbrev shown : List Text → Text → List Text → ℕ → ℕ → ℕ → Text
+shown before told after kept_orders replaced_orders left_orders =
+    told ++ (differing (codes "- ") before after ++ (differing (codes "+ ") after before ++ end_line kept_orders replaced_orders left_orders))
+
+-- the text is that of the point at which all orders have had their turn
+pub text_told : (before after : List Text) (p : MendPoint) (m : Mended) (text : Text) → IsPoint p m → after ≡ ward_lines p.state
+    → text ≡ shown before (string_bytes m.text) after m.kept m.replaced m.left_out → text ≡ mended_text before p
+unfolding mended_text
+text_told before after p m text point lines is =
+    is ∙ ap (λ t. shown before t after m.kept m.replaced m.left_out) point.told
+    ∙ ap (λ l. shown before p.told l m.kept m.replaced m.left_out) lines
+    ∙ ap (λ n. shown before p.told (ward_lines p.state) n m.replaced m.left_out) point.kept_orders
+    ∙ ap (λ n. shown before p.told (ward_lines p.state) p.kept_orders n m.left_out) point.replaced_orders
+    ∙ ap (λ n. shown before p.told (ward_lines p.state) p.kept_orders p.replaced_orders n) point.left_orders
+
+-- ---- the outcome
+
+-- no new office was made, and nothing was written
+pub unmade : (before : List Text) (changes : Changes) (page : Page) (left : CopyState) (st : State) → IsUnmade changes page → IsTried before changes page left st st
+unmade before changes page left st why = record { told = inr why; stops = λ honest blank trees may. inl may }

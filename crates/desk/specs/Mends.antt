@@ -1,0 +1,105 @@
+-- The outcome of an order to mend: a new office from the journal of another, with some orders left out and others replaced.
+use Rattle.std.specs.Prelude.{◌≡◌, ◌⊎◌, ◌++◌, List, [], codes, if◌then◌else◌, map, string_bytes}
+use Rattle.std.specs.List.{flat_map, list_any}
+use Rattle.std.specs.Str.{bytes_eq}
+use Rattle.clap.specs.Words.{Text}
+use Rattle.sqlite.specs.State.{HasCleanDisk, State}
+use Rattle.register.specs.Offices.{OfficeState}
+use Rattle.register.specs.declared.command.Request.{Request}
+use Rattle.store.specs.Copies.{LeavesNoneOrAll}
+use Rattle.store.specs.Openings.{IsBlank}
+use Rattle.store.specs.Overviews.{ward_views}
+use Rattle.store.specs.StateTables.{IsAt}
+use Rattle.office.specs.Runs.{LeadTo}
+use Rattle.mending.specs.Changes.{CanBeMade, IsFlawOf, names_of}
+use Rattle.mending.specs.Accounts.{IsMended}
+use Rattle.mending.specs.Mending.{MendPoint, mended}
+use Rattle.mending.specs.Reports.{end_line, flaw_text}
+use Rattle.mending.specs.declared.changes.Changes.{Changes}
+use Rattle.mending.specs.declared.changes.Flaw.{Flaw}
+use Rattle.desk.specs.Journals.{IsScriptOf}
+use Rattle.desk.specs.Overviews.{ward_line}
+use Rattle.desk.specs.Pages.{Page, below, failed, line, printed, unjournalled, unmended}
+use Rattle.desk.specs.declared.copying.CopyState.{CopyState}
+use Rattle.desk.specs.declared.copying.CopyState.TheVariants.{Untouched, Whole}
+use Rattle.desk.specs.declared.lines.Failure.{Failure}
+use Rattle.desk.specs.declared.lines.Failure.TheVariants.{CopyFailed}
+use Rattle.desk.specs.declared.orders.MendOrder.{MendOrder}
+
+-- ---- the request
+
+-- the script of the replacing orders, one per line
+abbrev pub script_of : List Text → Text
+script_of lines = flat_map line lines
+
+-- The changes that an order to mend asks for in the office at a state. Their orders are those of a journal, which lead to this state. The names to leave out and the
+-- orders that replace others are those that the words give.
+pub record AreAsked (s : OfficeState) (m : MendOrder) (changes : Changes) : Type 0 where
+  pub orders : LeadTo changes.orders.now s
+  pub without : names_of changes ≡ map string_bytes m.without.items
+  pub instead : IsScriptOf (script_of (map string_bytes m.instead.items)) changes.instead.now
+
+-- ---- what is printed
+
+-- the line on each ward
+abbrev pub ward_lines : OfficeState → List Text
+ward_lines s = map ward_line (ward_views s)
+
+-- the line after a mark, unless it is one of the others
+abbrev pub missing_from : List Text → Text → Text → Text
+missing_from others mark text = if list_any (bytes_eq text) others then [] else line (mark ++ text)
+
+-- those of our lines that theirs don't include, each after a mark
+abbrev pub differing : Text → List Text → List Text → Text
+differing mark ours theirs = flat_map (missing_from theirs mark) ours
+
+-- What is printed about a new office. First come the orders that were left out or replaced. Then come the lines on wards that only the old office has, and those that
+-- only the new one has. The last line has the numbers of orders that were kept, replaced and left out.
+unfoldable pub mended_text : List Text → MendPoint → Text
+mended_text before p =
+    p.told ++ (differing (codes "- ") before (ward_lines p.state)
+    ++ (differing (codes "+ ") (ward_lines p.state) before ++ end_line p.kept_orders p.replaced_orders p.left_orders))
+
+-- what is printed if the texts after `--with` aren't orders that can be sent
+abbrev pub unsent_text : Text
+unsent_text = codes "not mended: each --with is an order that is sent, as a line of a script, and that names no file\n"
+
+-- ---- the outcome
+
+-- The new office was made. It is at the state that the mended list of orders leads to. `before` has the lines on wards of the old office.
+pub record IsMade (before : List Text) (changes : Changes) (page : Page) (left : CopyState) (new_old new_new : State) : Type 0 where
+  pub can : CanBeMade changes
+  pub list : IsMended changes (mended changes)
+  pub told : page ≡ printed (mended_text before (mended changes))
+  pub whole : left ≡ Whole
+  pub at : HasCleanDisk new_new → IsBlank new_old → IsAt (mended changes).state new_new
+
+-- the changes can't be made, and the page says why; or the page reports a failure
+abbrev pub IsUnmade : Changes → Page → Type 0
+IsUnmade changes page = ((flaw : Flaw) × IsFlawOf changes flaw × (page ≡ unmended (flaw_text flaw))) ⊎ ((failure : Failure) × (page ≡ failed failure))
+
+-- The new office was made or not. Whatever a stop leaves, the new database is unchanged or contains the whole new office.
+pub record IsTried (before : List Text) (changes : Changes) (page : Page) (left : CopyState) (new_old new_new : State) : Type 0 where
+  pub told : IsMade before changes page left new_old new_new ⊎ IsUnmade changes page
+  pub stops : HasCleanDisk new_new → IsBlank new_old → LeavesNoneOrAll (mended changes).state new_old new_new
+
+-- the orders of the office couldn't be read: the page says that it has no journal, or reports a failure
+abbrev pub IsUnread : Page → Type 0
+IsUnread page = (page ≡ unjournalled) ⊎ ((failure : Failure) × (page ≡ failed failure))
+
+-- The outcome of an order to mend the office at a state. Either an attempt was made with the requested changes. Or nothing was written, because the texts after `--with`
+-- aren't orders that can be sent, because there is no journal, or because of a failure.
+abbrev pub IsMendedOpen : OfficeState → MendOrder → Page → CopyState → State → State → Type 0
+IsMendedOpen s m page left new_old new_new =
+    ((changes : Changes) × AreAsked s m changes × IsTried (ward_lines s) changes page left new_old new_new) ⊎ (((page ≡ unmended unsent_text) ⊎ IsUnread page) × (left ≡ Untouched))
+
+-- the page of an order to mend the office at a state
+abbrev pub IsMendTold : OfficeState → MendOrder → Page → Type 0
+IsMendTold s m page =
+    ((changes : Changes) × AreAsked s m changes
+    × ((CanBeMade changes × IsMended changes (mended changes) × (page ≡ printed (mended_text (ward_lines s) (mended changes)))) ⊎ IsUnmade changes page))
+    ⊎ ((page ≡ unmended unsent_text) ⊎ IsUnread page)
+
+-- the same page, possibly followed by the failure to merge the log of the new office into its file
+abbrev pub IsMendPage : OfficeState → MendOrder → Page → Type 0
+IsMendPage s m page = IsMendTold s m page ⊎ ((made : Page) × IsMendTold s m made × (page ≡ below made (failed CopyFailed)))

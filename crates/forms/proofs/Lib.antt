@@ -1,0 +1,1 @@
+-- Shared lemmas of the proofs for the forms.

@@ -1,1 +1,0 @@
-"""What the tools of this repository share: an office that they start, type orders to, serve and kill."""

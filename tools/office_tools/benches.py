@@ -1,0 +1,201 @@
+"""What the program costs, and how often papers are keyed."""
+import contextlib
+import itertools
+import json
+import os
+import random
+import resource
+import select
+import statistics
+import subprocess
+from concurrent.futures import ThreadPoolExecutor
+
+from office_tools.election import COPYING, ELECTION, END, READS, REPLAY, SCRIPTED, Order, keying, marks_of, ward_orders
+from office_tools.office import HERE, Office, Table, needs, program as program_of, request, status, temporary_folder, timed, wrong_if
+from office_tools.players import keys_of
+
+CANDIDATES, SEATS, BATCH, RUNS = 10, 4, 500, 5
+LARGE = [Order(line.split()) for line in (
+    "batches 8", "seal 8 --id seal", "advance 8 --id first", "advance 8 --id second", "count 8 --id count", "sheet 8", "ballots 8",
+    "declare 8 --id declare", "result 8")]
+
+def papers(chance, count):
+    """Returns the marks of papers: a few preferences each, the lower numbers more often first, so that no lot is needed."""
+    orders = [sorted(range(CANDIDATES), key=lambda candidate: candidate + 12 * chance.random()) for _ in range(count)]
+    return [marks_of(order[:chance.randint(1, 6)], CANDIDATES) for order in orders]
+
+def nominated(folder, *batches):
+    candidates = [f"Candidate {c}" for c in range(1, CANDIDATES + 1)]
+    return Office(folder).begin(ward_orders(*batches, candidates=candidates, seats=SEATS, ward=8, name="Quay"))
+
+def keyed_ward(folder, count):
+    chance, batches = random.Random(7), range(100, 100 + count // BATCH)
+    office = nominated(folder, *((batch, BATCH, 4, 9) for batch in batches))
+    for batch in batches:
+        office.write(f"{batch}.csv", keying(papers(chance, BATCH), range(1, CANDIDATES + 1)))
+    office.replay([f"import-keying {clerk} {batch} 1 {batch}.csv --id k{batch}" for batch in batches for clerk in (4, 9)])
+    return office
+
+def best(office, order, is_served=False):
+    found = []
+    for _ in range(RUNS):
+        copy = office.copied(office.folder / "timed")
+        with copy.serve().wait() if is_served else contextlib.nullcontext():
+            printed, seconds = timed(order.done, copy)
+        wrong_if(printed.status and not printed.err.startswith("refused"), f"{order.name[:80]}: {printed}")
+        found.append(1000 * seconds)
+    return min(found)
+
+def measured(count):
+    reads = [*READS, (SCRIPTED[0], REPLAY), (END, COPYING)]
+    with temporary_folder() as folder:
+        office = keyed_ward(folder / "town", count)
+        found = {"`init`": f"{best(Office(folder / 'empty'), ELECTION[0]):.0f} ms"}
+        for number, order in enumerate([*ELECTION[1:], *LARGE], 1):
+            for one in (*(read for place, read in reads if place == number), order):
+                found[f"`{one.name[:32].strip()}`"] = f"{best(office, one):.0f} ms; {best(office, one, is_served=True):.0f} ms"
+            order.put_files(office)
+            office.do(*order.words)
+    found["the most memory so far"] = f"{resource.getrusage(resource.RUSAGE_CHILDREN).ru_maxrss / 1024:.0f} MB"
+    return found
+
+def bench_cost(*papers: int):
+    """Measures each order, alone and while the office is served, in offices of several sizes, and prints a table.
+
+    An office has a ward of PAPERS papers, by default 1000 10000 100000, which come from a fixed generator; it has 10 candidates and 4
+    seats, and two clerks keyed it alike, in batches of 500. Next to it the small election of tools/try is played, and each of its orders is
+    timed on a copy of the file: the shortest of five runs counts. Then the large ward is counted. The last line is the highest peak of
+    memory, which is that of `journal`. Take the machine for half an hour.
+    """
+    sizes = sorted(papers) or (1000, 10000, 100000)
+    columns = [measured(count) for count in sizes]
+    table = Table("Order, alone; while it is served", *(f"{count:,} papers" for count in sizes))
+    for name in columns[0]:
+        table.row(name, *(found[name] for found in columns))
+
+CLERKS, CLIENTS, SILENT = range(1, 21), (1, 20, 200), 300
+# How often each program serves, and how many `ab` run side by side: one has one thread, and is slower than `serve`.
+TURNS, LOADS = 5, 3
+WORK = "/clerks/1/work"
+
+def office_to_key(folder, rounds, size):
+    chance, requests, batches = random.Random(7), {clerk: [] for clerk in CLERKS}, []
+    for number in range(1, rounds * len(CLERKS) + 1):
+        clerk = number % len(CLERKS) + 1
+        body = json.dumps({"id": f"k{number}", "round": 1, "papers": papers(chance, size)})
+        requests[clerk].append(request(f"/clerks/{clerk}/batches/{number}/keying", body=body))
+        batches.append((number, size, clerk, 999))
+    return nominated(folder, *batches), requests
+
+def asked(serving, sends):
+    text, seconds = timed(serving.ask, sends)
+    wrong_if(status(text) != 200, f"{sends[:200]}: {text}")
+    return seconds
+
+def keyed(serving, requests):
+    """Has clerks key at once. Returns how many keyings are answered a second, and how long the slowest took, in ms."""
+    with ThreadPoolExecutor(len(requests)) as pool:
+        found, seconds = timed(list, pool.map(lambda own: [asked(serving, sends) for sends in own], requests))
+    times = [took for times in found for took in times]
+    return len(times) / seconds, 1000 * max(times)
+
+def reads_a_second(port, clients, seconds):
+    """Returns how many requests for a clerk's work are answered a second, as `ab` counts them; none may fail."""
+    def count(part):
+        words = ["ab", "-q", "-t", str(seconds), "-n", "1000000", "-c", str(len(part)), f"http://{HERE}:{port}{WORK}"]
+        told = subprocess.run(words, capture_output=True, text=True, check=False).stdout
+        found = dict(line.split(":", 1) for line in told.splitlines() if ":" in line)
+        wrong_if(found.get("Failed requests", "").strip() != "0" or "Non-2xx responses" in found, f"ab: {told}")
+        return float(found["Requests per second"].split()[0])
+    parts = [range(first, clients, LOADS) for first in range(min(LOADS, clients))]
+    with ThreadPoolExecutor(len(parts)) as pool:
+        return sum(pool.map(count, parts))
+
+def figures(folder, rounds):
+    found = {}
+    for size in (5, BATCH):
+        made, requests = office_to_key(folder / str(size), 3 * rounds, size)
+        with made.serve().wait() as serving:
+            alone, *others = requests.values()
+            silent = [serving.connect() for _ in range(SILENT)]
+            for who, own in (("one clerk", [alone]), (f"{len(others)} clerks", others)):
+                what = f"{who}, {size} papers"
+                found[f"keyings a second, {what}"], found[f"the slowest of them, ms, {what}"] = keyed(serving, own)
+            wrong_if(select.select(silent, [], [], 0)[0], "a silent connection was disconnected")
+            for line in silent:
+                line.close()
+            if size == BATCH:
+                found |= {f"reads a second, {clients} clients": reads_a_second(serving.port, clients, rounds) for clients in CLIENTS}
+                found["memory, MB"] = serving.memory()
+    return found
+
+def bench_serving(rounds=5, *, program: list = ()):
+    """Times clients that are served side by side, and prints a table. It needs `ab` of apache2-utils.
+
+    Each program that --program A --program B names serves a few times, in turns, or the one alone that is set: the table has the middle of
+    its turns, and what part that is of the first one's. Next to 300 silent connections one clerk keys, and then 19 at once, all as fast as
+    they are answered. Reads are requests for a clerk's work, as `ab` counts. Memory is that of `serve` after all this. ROUNDS is how many
+    seconds `ab` asks, and a third of the batches that each clerk keys.
+    """
+    needs("ab")
+    found = {path: [] for path in program or [program_of()]}
+    for _ in range(TURNS):
+        for path, results in found.items():
+            os.environ["COUNT_OFFICE"] = path
+            program_of.cache_clear()
+            with temporary_folder() as folder:
+                results.append(figures(folder, rounds))
+    table = Table(f"The middle of {TURNS} turns", *found)
+    for what in results[0]:
+        middle = [statistics.median(result[what] for result in results) for results in found.values()]
+        table.row(what, *(f"{count:,.0f} ({count / max(1, middle[0]):.2f})" for count in middle))
+
+SIZES, RATES, RECOMMENDED, MOST = (25, 50, 75, 100), (0.003, 0.005, 0.01, 0.02), (50, 0.01), 2.6
+
+def keyed_anew(rate, size):
+    """Returns the keyings' time that a batch takes on average: after two clerks a third one keys, and then all three in each new round."""
+    clean = (1 - rate) ** size
+    agreed = 3 * clean ** 2 - 2 * clean ** 3
+    return 2 + (1 - clean ** 2) + 3 * (1 - agreed) / agreed
+
+def gone_through(rate, size, finds, takes):
+    """Returns the same if clerks go through their own keyings of a batch that differs, and a third one keys if it still does."""
+    # What is found is keyed again, with new slips. A keying without a slip stays so.
+    clean = [(1 - rate * (1 - finds + finds * rate) ** readings) ** size for readings in range(1000)]
+    # The third clerk's keying was read once less than the two others.
+    differ = [1 - first ** 2 - 2 * first * (1 - first) * third for first, third in zip(clean[1:], clean)]
+    wrong_if(differ[-1] > 1e-6, "a reading finds too little: after 1,000 rounds a batch still differs")
+    return 2 + 2 * takes * (1 - clean[0] ** 2) + (1 - clean[1] ** 2) + 3 * takes * sum(differ)
+
+def voted(size, columns, chance):
+    """Returns marks as voters write them: most have a few numbers in order, some are doubtful, empty, or odd."""
+    papers = []
+    for _ in range(size):
+        count = chance.choice([1, 2, 3, 3, 4, columns])
+        fields = chance.sample([*map(str, range(1, count + 1))] + [""] * (columns - count), columns)
+        papers.append(chance.choice(["D", "," * (columns - 1), ",12" + "," * (columns - 2)] + 30 * [",".join(fields)]))
+    return papers
+
+def print_keys(papers):
+    # In a spreadsheet Tab moves on, and Enter ends the row.
+    plain, numbers = sum(len(text.rstrip(",")) + 1 for text in papers), sum(len(str(number + 1)) + 1 for number in range(len(papers)))
+    counts = {"the page": sum(len(keys_of(text)) for text in papers), "a spreadsheet, the papers' numbers typed": plain + numbers,
+              "a spreadsheet, the numbers filled in before": plain}
+    table = Table("50 papers of 5 candidates", "keys", "a paper", "at three keys a second")
+    for what, count in counts.items():
+        table.row(what, count, f"{count / len(papers):.1f}", f"{count / 3:.0f} s")
+
+def bench_rounds(*, finds=0.9, takes=1 / 3):
+    """Computes how many keys a paper takes, and how often each is keyed until its batch is taken.
+
+    It needs no program. A slip is a paper that is keyed wrongly; no two slips are alike, so two keyings are equal if neither has one. A
+    batch that differs is keyed again, with a third clerk at once; or its two clerks go through their own keyings, and the third clerk keys
+    only if they still differ. A reading finds a part of the slips (FINDS), and takes a part of a keying's time (TAKES); what is found is
+    keyed again. At slips of 1% in batches of 50 it may take at most 2.6 keyings' time a paper. 2.0 is the least that two clerks can take.
+    """
+    table = Table("Slips", "papers in a batch", "keyed anew", "gone through", "batches that differ at first")
+    for rate, size in itertools.product(RATES, SIZES):
+        read = gone_through(rate, size, finds, takes)
+        table.row(f"{rate:.1%}", size, f"{keyed_anew(rate, size):.1f}", f"{read:.2f}", f"{1 - (1 - rate) ** (2 * size):.0%}")
+        wrong_if((size, rate) == RECOMMENDED and read > MOST, f"batches of {size} take {read:.2f} keyings' time a paper, more than {MOST}")
+    print_keys(voted(50, 5, random.Random(11)))

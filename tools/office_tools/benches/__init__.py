@@ -1,1 +1,0 @@
-"""Tools that measure: one module for each name of tools/bench."""

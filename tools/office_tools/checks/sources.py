@@ -1,0 +1,309 @@
+"""The sources of the crates, compared with the pages that name them and with the house rules; and the code of the tools."""
+import collections
+import importlib.machinery
+import importlib.util
+import os
+import re
+import shutil
+import subprocess
+import sys
+import time
+from concurrent.futures import ThreadPoolExecutor
+from pathlib import Path
+
+from office_tools import sources
+from office_tools.office import ROOT, Wrong, needs
+
+# What shellcheck doesn't report: words in single quotes that look like the shell's own, since they are another program's.
+QUOTED = "SC2016,SC1003"
+PARAMETERS, LINES, CHARACTERS = 5, 40, 200
+LARGE = {
+    "checker": "flaw_remedy", "count": "figured lost_from", "sheet": "style write_page write_row", "tables": "select_text",
+    "desk": "mend_open replay run send_all run_script run_steps tell_numbered",
+    "count_office": "fill fill_mended fill_open finish mend_served dispatch_order perform_locked", "store_tests": "are_refused give",
+}
+# Two characters too long since something in it was renamed.
+LONG = {"wire": "proofs/answering/answer_reading/Answers.antt:35"}
+PARAMETER, FIXED = re.compile(r"[(,]\s*(?:mut )?(?!alloc:)(?:\([^()]*\)|[a-z_]\w*):(?!:)"), re.compile(r'.*"[^"]{60,}')
+BOUND = re.compile(r"\b(?:calls? itself|recurses)\b[^.]*\bat most\b", re.I)
+
+def calls_itself(function):
+    before = r"\b(?:self\.|Self::)" if function.owners else r"(?<![\w.:])"
+    return not function.in_trait_impl and bool(re.search(rf"{before}{function.name}(?:::<[^;{{}}()]*>)?\(", function.body))
+
+def broken_rules():
+    for crate in sources.crates():
+        unbound = (f for f in crate.functions if calls_itself(f) and not BOUND.search(" ".join(f.comment.split())))
+        yield from (f"crates/{crate.name}/{f.path}:{f.line}: {f.title} calls itself: no bound is stated" for f in unbound)
+        large = {f.name for f in crate.functions if len(PARAMETER.findall(f.head)) > PARAMETERS or f.body.count("\n") - 1 > LINES}
+        for name in sorted(large ^ set(LARGE.get(crate.name, "").split())):
+            yield f"{crate.name}: {name} has more than {PARAMETERS} parameters or {LINES} lines, and isn't among LARGE; or needn't be"
+        written = ("src/**/*.rt", "specs/**/*.antt", "proofs/**/*.antt")
+        paths = [] if crate.name.endswith("_tests") else [path for part in written for path in crate.folder.glob(part)]
+        lines = ((f"{path.relative_to(crate.folder)}:{number}", line) for path in paths for number, line in enumerate(path.open(), 1))
+        long = {place for place, line in lines if len(line.rstrip("\n")) > CHARACTERS and not FIXED.match(line)}
+        for place in sorted(long ^ set(LONG.get(crate.name, "").split())):
+            yield f"{crate.name}: {place} has more than {CHARACTERS} characters, and isn't among LONG; or needn't be"
+
+def check_code():
+    """Reads all code of this repository for what a linter sees, and for the house rules of CONTRIBUTING.md on sizes.
+
+    pyflakes reads all Python, and shellcheck all shell; they find nothing. A function has at most five parameters besides itself and the
+    allocator, and 40 lines; those that have more are named here, and one that needn't be is reported too. A line has at most 200
+    characters, but for texts that are fixed and LONG. The comment above a function that calls itself by its own name states a bound, as
+    `Recurses at most 30 times.`, which is one of the program's own; methods of a trait, and functions that call each other, aren't seen.
+    """
+    needs("pyflakes3", "shellcheck")
+    listed = subprocess.run(["git", "ls-files", "-co", "--exclude-standard"], cwd=ROOT, capture_output=True, text=True, check=True).stdout
+    found = collections.defaultdict(list)
+    for path in filter(lambda path: path.is_file(), map(ROOT.joinpath, listed.split("\n"))):
+        # A file is known by its ending, or by its first line.
+        first = re.match(rb"#!.*?(python|sh)[0-9]*$", path.read_bytes().split(b"\n")[0].rstrip())
+        found[{".py": "python", ".sh": "sh", ".bash": "sh"}.get(path.suffix) or first and first[1].decode()].append(path)
+    checked = [subprocess.run(["pyflakes3", *found["python"]]), subprocess.run(["shellcheck", "-x", "-e", QUOTED, *found["sh"]], cwd=ROOT)]
+    return list(broken_rules()) or max(run.returncode for run in checked)
+
+HAND, MESSAGES = [ROOT / f"docs/engineering/{name}.md" for name in ("proofs", "limits")], ROOT / "docs/officer/when-it-says-no.md"
+MADE = ROOT / "out/proofs-table.md"
+PAGES = ("officer/rules", "formats/orders", "formats/sheets", "formats/ballots", "formats/records", "officer/glossary")
+DEFINED = [ROOT / f"docs/{name}.md" for name in PAGES]
+# What the program prints before a number, the file of definitions, and the definitions of the number and of the text after it.
+NUMBERED = [
+    ("refused {}: ", "register/specs/Reasons.antt", "reason_number", "reason_words"),
+    ("file fault {} at record R: ", "keyfile/specs/Faults.antt", "flaw_number", "flaw_words"),
+    ("fault {}: ", "tables/specs/Faults.antt", "fault_number", "fault_text"),
+    ("fault {}: ", "desk/specs/Pages.antt", "failure_number", "failure_text"),
+    ("codes fault {} at line L: ", "codes/specs/Faults.antt", "flaw_number", "flaw_text"),
+    ("codes fault {}: ", "codes/specs/Faults.antt", "fault_number", "fault_text"),
+]
+OF = re.compile(r"((?:`\w+`(?:, | and ))*`\w+`) of ((?:`[\w:]+`(?:, | and ))*`[\w:]+`)")
+HEAD = """# Every public function and its clauses
+
+`tools/check proofs --write` makes this page from the sources; it isn't committed. Each function is proved safe, to return, and to meet \
+its clauses, which are above its body in the sources, with its documentation, of which the first sentence is shown. A *wrong body* is an \
+edit in `must-fail/` or `wrong-bodies/` of the crate that the contract of its own crate refuses. Functions that aren't public, and \
+definitions, are listed only if an edit changes them. There are {public} public functions with {clauses} clauses, and {edits} wrong bodies.
+"""
+
+def listed(names):
+    return ", ".join(f"`{name}`" if name else "one without a name" for name in names) or "–"
+
+def table_of(crate):
+    """Returns the table of a crate's functions and wrong bodies, with its heading; nothing if there is no row."""
+    edits, rows = collections.defaultdict(list), []
+    for name, edit in crate.edits.items():
+        for target in crate.targets_of(edit):
+            edits[target].append(name)
+    for f in [f for f in crate.functions if crate.is_shown(f) or f in edits]:
+        sentence = " ".join(re.split(r"(?<=[^.]\.)\s|\n\s*\n", f.comment.strip() + " ")[0].replace("|", "\\|").split()).rstrip(".")
+        where = "" if crate.is_shown(f) else f", within `{f.path}`"
+        rows.append(f"| `{f.title}`{where} | {sentence or '–'} | {listed(f.ensures)} | {listed(edits.pop(f, []))} |")
+    rows += [f"| `{name or 'a line'}`, within `{path}` | – | – | {listed(names)} |" for (path, name), names in edits.items()]
+    head = [f"\n## `{crate.name}`\n", "| function | what it does | clauses | wrong bodies refused |", "|---|---|---|---|"]
+    return head + rows if rows else []
+
+def write_table(crates):
+    shown = [function for crate in crates for function in crate.functions if crate.is_shown(function)]
+    clauses, edits = sum(len(function.ensures) for function in shown), sum(len(crate.edits) for crate in crates)
+    lines = [HEAD.rstrip().format(public=len(shown), clauses=clauses, edits=edits), *(line for crate in crates for line in table_of(crate))]
+    MADE.parent.mkdir(exist_ok=True)
+    MADE.write_text("\n".join(lines) + "\n", encoding="utf-8")
+
+def quoted(text):
+    return re.findall(r"`([^`]*)`", text)
+
+def clauses_of(crates):
+    """Returns {name of a function, with its type and without: its clauses}"""
+    found = {}
+    for function in (function for crate in crates for function in crate.functions):
+        for title in {f"{owner}::{function.name}" for owner in function.owners} | {function.name}:
+            found.setdefault(title, set()).update(function.ensures + function.requires)
+    return found
+
+def missing_of_row(crates, name, where):
+    clauses = clauses_of([crate for crate in crates if crate.name == name.strip("`")])
+    if not clauses:
+        yield f"no crate {name}"
+        return
+    # The colons of a name in backticks part nothing.
+    for part in re.sub("`[^`]*`", lambda found: found[0].replace("::", "%"), where).split(";"):
+        functions, _, names = part.partition(":")
+        for function in (function.replace("%", "::") for function in quoted(functions)):
+            if function not in clauses:
+                yield f"no function {function} in {name}"
+            yield from (f"no clause {it} of {function} in {name}" for it in quoted(names) if it not in clauses.get(function, [it]))
+
+def missing_messages():
+    headings, wanted = re.findall(r"^### `(.*)`$", MESSAGES.read_text(), re.M), []
+    for front, file, number, text in NUMBERED:
+        definitions = (ROOT / "crates" / file).read_text()
+        texts = dict(re.findall(rf'^{text} \(?(\w+)[^=\n]*= codes "([^"]*)"$', definitions, re.M))
+        wanted += [front.format(own) + texts[name] for name, own in re.findall(rf"^{number} \(?(\w+)[^=\n]*= (\d+)$", definitions, re.M)]
+    found = [[heading for heading in headings if heading == it or it[-1] == " " and heading.startswith(it)] for it in wanted]
+    yield from (f"no heading {message}" for message, own in zip(wanted, found) if len(own) != 1)
+    yield from (f"no message of the sources is {heading}" for heading in headings if [heading] not in found)
+
+def missing_of_text(line, clauses, words):
+    for names, functions in OF.findall(line):
+        for function in quoted(functions):
+            yield from (f"no clause {clause} of {function}" for clause in quoted(names) if clause not in clauses.get(function, [clause]))
+    for name in quoted(line):
+        parts = {name} if name.startswith("Rattle.") else set(re.findall(r"\w+", name))
+        if re.fullmatch(r"[\w:.]+", name) and not parts <= words:
+            yield f"no {name} in the sources"
+
+def faults_of(crates):
+    """Yields what the pages that are written by hand name and the sources don't have, and edits whose old text isn't just once there."""
+    words, clauses = set(re.findall(r"\w+", (ROOT / "crates.txt").read_text())), clauses_of(crates)
+    for crate in crates:
+        words.update(crate.edits, *(re.findall(r"\w+", text) for text in crate.texts.values()))
+        for path in crate.folder.glob("specs/**/*.antt"):
+            text, name = path.read_text(), ".".join(["Rattle", crate.name, *path.relative_to(crate.folder).with_suffix("").parts])
+            defined = re.findall(r"^(?:\w+ )?pub (?:\w+ )?(\w+)", text, re.M)
+            words.update(re.findall(r"\w+", text), [name], (f"{name}.{own}" for own in defined))
+        for name, path, old in ((name, *change[:2]) for name, edit in crate.edits.items() for change in sources.changes_of(edit)):
+            if (times := crate.text_at(path).count(old)) != 1:
+                yield f"{crate.name}/{name}.edit: its old text stands {times} times in {path}"
+    for page in [*HAND, *DEFINED]:
+        for number, line in enumerate(page.read_text().splitlines(), 1):
+            faults, cells = [], [cell.strip() for cell in re.split(r"(?<!\\)\|", line)[1:-1]]
+            if page in HAND and len(cells) == 3 and cells[0] != "crate" and not set(cells[0]) <= set("-: "):
+                faults = missing_of_row(crates, cells[0], cells[2])
+            elif page in HAND or line.startswith(("- Definition", "The definition")) or page.stem == "glossary" and line.startswith("|"):
+                faults = missing_of_text(line, clauses, words)
+            yield from (f"{page.name}:{number}: {fault}" for fault in faults)
+
+def check_proofs(*, write=False):
+    """Compares what the pages of docs/ name of the sources with them.
+
+    Each row of a table | crate | promise | where | of docs/engineering/proofs.md and limits.md names in its last column functions of the
+    crate and, after a colon, clauses of each, in parts like `Office::run`: `headline`, `answers`; `order`: `ok`. In their text, and in
+    lines about definitions of PAGES, `opened`, `told` of `Store::open_from` names clauses of a function, and each word in backticks is one
+    of the sources. Each refusal and fault has its heading in docs/officer/when-it-says-no.md. Each edit's old text is just once in its
+    file. --write makes out/proofs-table.md.
+    """
+    crates = sources.crates()
+    if write:
+        write_table(crates)
+    return [*faults_of(crates), *(f"{MESSAGES.name}: {fault}" for fault in missing_messages())]
+
+# What a check may take, the crates in which the functions to prove are most of the crate, and the others that take longest.
+MEMORY = 5 << 30
+DEAREST = ("count_office", "desk", "office", "store")
+LONGEST = ("wire", "server")
+HIDDEN = re.compile(r"no proof: it calls .* not proved$")
+REACHED = re.compile(r"^only=\d+ proved=\d+", re.M)
+# A text that can't be read shows nothing of a contract, nor does a proof that names what the edit took away.
+UNREAD = re.compile(r"^\S*(?:src|specs)/\S+: error: (?!`)", re.M)
+GONE = re.compile(r"^(?:\./)?proofs/(\S+)/\w+\.antt:.*(?:has no field|is not in scope|has no `|was not admitted)", re.M)
+
+def kit():
+    """Returns the command rt as a module. It checks a copy of a crate over what is built, as for the edits of must-fail/."""
+    path = os.path.realpath(shutil.which("rt") or sys.exit("this needs rt, the toolchain"))
+    loader = importlib.machinery.SourceFileLoader("rt_command", path)
+    rt = importlib.util.module_from_spec(importlib.util.spec_from_loader("rt_command", loader))
+    sys.dont_write_bytecode = True
+    loader.exec_module(rt)
+    if not all(hasattr(rt, name) for name in ("checked", "free")) or not hasattr(rt.rtlib, "crates_below"):
+        sys.exit("this kit's rt has no part that checks an edited copy: put the edits into must-fail/, and try them by rt must-fail")
+    return rt
+
+def edited(folder, edits):
+    """Returns {path below a crate: its text with all edits in it}."""
+    texts = {}
+    for name, edit in edits.items():
+        for path, old, new in sources.changes_of(edit):
+            texts.setdefault(path, (folder / path).read_text())
+            if texts[path].count(old) != 1:
+                sys.exit(f"{folder.name}/{name}: its old text is in {path} {texts[path].count(old)} times, and not once")
+            texts[path] = texts[path].replace(old, new)
+    return texts
+
+def path_of(function):
+    """Returns the end of a function's name in a check. A method stands below its type, or its type and trait in one, wherever that is."""
+    owners = ["".join(function.owners)] if function.owners else [part for part in function.module if part != "lib"]
+    return "::".join([*owners, function.name])
+
+def verdict(said, crate, edit):
+    """Returns what a check says of an edit: "refused", "hidden" by another one, or why it shows nothing."""
+    functions = crate.functions_of(edit)
+    reports = [rf"^fn {crate.name}::(?:\S+::)?{re.escape(path_of(function))}: (.*)$" for function in functions]
+    lines = [line for report in reports for line in re.findall(report, said, re.M)]
+    if UNREAD.search(said) or not REACHED.search(said):
+        return "no contract was tried: the check ended before its proofs"
+    if not lines:
+        return "it changes no function that a check reports"
+    if all(line == "proved" for line in lines):
+        return "not refused"
+    if all(line == "proved" or HIDDEN.match(line) for line in lines):
+        return "hidden"
+    gone = any(folder.startswith("/".join(f.module)) and folder.endswith("/" + f.name) for folder in GONE.findall(said) for f in functions)
+    return "refused" + (", only because a proof names what it takes away" if gone else "")
+
+def tried(rt, crate, edits):
+    """Tries edits of a crate, all at once. Returns {its name: the outcome}."""
+    changed = {path_of(function) for edit in edits.values() for function in crate.functions_of(edit)}
+    built = next(it for it in rt.rtlib.crates_below(os.getcwd()) if it.name == crate.name)
+    flags = ["--jobs", "1", *(word for path in sorted(changed) for word in ("--only", path))]
+    said = rt.checked(built, edited(crate.folder, edits), flags, None).stdout
+    found = {name: verdict(said, crate, edit) for name, edit in edits.items()}
+    if any(result != "hidden" and not result.startswith("refused") for result in found.values()):
+        print(said, end="", file=sys.stderr)
+    return found
+
+def results(rt, crate, edits):
+    """Tries all edits of a crate at once that change different functions; then, each by itself, the others and those that these hide."""
+    together, changed = {}, set()
+    for name, edit in edits.items():
+        functions = set(map(path_of, crate.functions_of(edit)))
+        if not functions & changed:
+            together[name], changed = edit, changed | functions
+    found = {name: result for name, result in tried(rt, crate, together).items() if result != "hidden"}
+    for name in [name for name in edits if name not in found]:
+        found |= tried(rt, crate, {name: edits[name]})
+    return found
+
+def check_wrong_bodies(*crates, built=False, gate=False, minutes: int = None):
+    """Tries the wrong bodies that `rt ci` leaves out: the contract of its own crate has to refuse each.
+
+    All of a crate's wrong-bodies/ are put into one copy of it, and one check proves the functions that they change: a function is proved by
+    its own body and the contracts of what it calls, so each of them has to be refused by itself. If one calls another, the check says no
+    more than that it calls what isn't proved: then those are tried once more without the others. Two that change one function are tried
+    apart.
+
+    A crate and those below it are built first if they aren't, and so the crate is known to be proved as it is. --built takes the crates as
+    `rt ci` leaves them in out/, and tries several side by side. --gate does this with all crates but count_office, desk, office and store,
+    which cost a whole proof. Prints a line for each wrong body, and ends with status 1 if one wasn't refused. With --minutes N it begins
+    with no crate once N minutes have passed, and names the crates that it had no time for.
+    """
+    end = time.monotonic() + 60 * minutes if minutes is not None else float("inf")
+    os.chdir(ROOT)
+    edits = collections.defaultdict(dict)
+    for path in sorted(Path().glob("crates/*/wrong-bodies/*.edit")):
+        if path.parts[1] in crates if crates else not (gate and path.parts[1] in DEAREST):
+            edits[path.parts[1]][path.stem] = path.read_text()
+    if empty := set(crates) - set(edits):
+        raise Wrong(f"no wrong bodies in {', '.join(sorted(empty))}")
+    rt, counts, left_out = kit(), [0, 0], []
+    rt.rtlib.guarded()  # it handles a signal, which only the first thread may
+
+    def try_crate(name):
+        if time.monotonic() >= end:
+            return name, {}
+        if not (built or gate):
+            quiet = {"stdout": subprocess.DEVNULL, "stderr": subprocess.DEVNULL}
+            subprocess.run(["rt", "lib", "--jobs", "1"], cwd=ROOT / "crates" / name, check=True, **quiet)
+        return name, results(rt, sources.Crate(ROOT / "crates" / name), edits[name])
+
+    # One crate a processor, as far as memory lets.
+    lanes = max(1, min(len(os.sched_getaffinity(0)), rt.free() // MEMORY)) if built or gate else 1
+    with ThreadPoolExecutor(lanes) as pool:
+        for name, found in pool.map(try_crate, sorted(edits, key=lambda it: (it not in DEAREST, it not in LONGEST, it))):
+            left_out += [name] * (not found)
+            for edit, result in found.items():
+                print(f"{name}/{edit}: {result}", flush=True)
+                counts = [counts[0] + result.startswith("refused"), counts[1] + 1]
+    print(f"{counts[0]} of {counts[1]} refused")
+    if left_out:
+        print(f"not tried, since the {minutes} minutes were over: {', '.join(left_out)}")
+    return counts[0] != counts[1]

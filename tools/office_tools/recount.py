@@ -1,0 +1,212 @@
+"""A count of ballots apart from the program, written from the text of the Order alone, as tellers do it who lay papers into parcels."""
+import collections
+import re
+
+from office_tools.office import Wrong
+
+# Values are whole hundred-thousandths of a vote.
+VOTE, CODES = 100000, range(1, 6)
+# A name, the numbers that share a rank, a number, or a comment.
+WORD = re.compile(r'"((?:[^"\\\n]|\\[^\n])*)"|([0-9]+(?:=[0-9]+)+)|(-?[0-9]+)|#([^\n]*)|\s+', re.ASCII)
+# What a comment of ours says, and the numbers at most; blanks, colons and commas part its words.
+OURS = {
+    "ward": ("Ward ([0-9]+)", 255),
+    "rejected": ("Rejected " + " ".join(f"{code} ([0-9]+)" for code in CODES), 2 ** 32 - 1),
+    "lot": ("Lot at stage ([0-9]+) ([0-9]+)", 255),
+}
+BEGINS_AS_OURS = re.compile(r"[^0-9a-z]*(ward|rejected|lot)(?![a-z])", re.ASCII | re.IGNORECASE)
+# Equal papers, held together.
+Bundle = collections.namedtuple("Bundle", "papers preferences")
+
+class Unreadable(Wrong):
+    """What makes a file no ballots file."""
+
+def told_by(comment, is_alone):
+    """Returns what a comment of ours says, and its numbers; nothing for another program's. One that only begins as ours can't be read."""
+    words = " ".join(re.split("[ \t\r:,]+", comment))
+    for what, (form, most) in OURS.items():
+        if is_alone and (found := re.fullmatch(f" {form} ?", words, re.ASCII)) and max(map(int, found.groups())) <= most:
+            return [(what, [int(number) for number in found.groups()])]
+    if BEGINS_AS_OURS.match(comment):
+        raise Unreadable(f"a comment that begins as ours do: {comment[:40]!r}")
+    return []
+
+def words_of(text):
+    """Returns the numbers, the shared ranks and the names of a ballots file, and what our comments in it say."""
+    if left := WORD.sub("", text):
+        raise Unreadable(f"neither a number nor a name: {left[:40]!r}")
+    words, ours = [], []
+    for found in WORD.finditer(text):
+        name, rank, number, comment = found.groups()
+        if name is not None:
+            words.append(re.sub(r'\\(["\\])', r"\1", name))
+        elif rank or number:
+            words.append(int(number) if number else tuple(map(int, rank.split("="))))
+        elif comment is not None:
+            before = text[text.rfind("\n", 0, found.start()) + 1:found.start()]
+            ours += told_by(comment, not before.strip(" \t\r"))
+    return iter(words), ours
+
+def taken(words, kind):
+    word = next(words, None)
+    if not isinstance(word, kind):
+        raise Unreadable(f"a number or a name is wanted in place of {'the end' if word is None else repr(word)}")
+    return word
+
+class Ballots:
+    def __init__(self, content):
+        words, ours = words_of(content.decode("utf-8", "surrogateescape").removeprefix("\ufeff"))
+        highest, self.seats = taken(words, int), taken(words, int)
+        self.numbers, self.withdrawn, self.bundles = range(1, highest + 1), set(), []
+        while (papers := taken(words, int)) < 0:
+            self.withdrawn.add(-papers)
+        while papers:
+            self.bundles.append(self.bundle(papers, list(iter(lambda: taken(words, (int, tuple)), 0))))
+            papers = taken(words, int)
+        names = {number: taken(words, str) for number in self.numbers}
+        self.names = {number: name for number, name in names.items() if number not in self.withdrawn}
+        self.ward_name = taken(words, str)
+        wards, rejected, lots = ([told for what, told in ours if what == kind] for kind in OURS)
+        self.lots = dict(lots)
+        is_told_twice = len(wards) > 1 or len(rejected) > 1 or len(self.lots) < len(lots)
+        has_papers_for_nothing = (self.bundles or rejected) and len(self.names) <= self.seats
+        if self.seats < 1 or next(words, None) is not None or is_told_twice or has_papers_for_nothing:
+            raise Unreadable("no seats, words after the ward's name, one of our comments again, or papers where nobody has to be chosen")
+        self.ward, self.rejected = wards[0][0] if wards else 1, rejected[0] if rejected else [0 for _ in CODES]
+
+    def bundle(self, papers, words):
+        """Returns so many papers with these ranks, up to the first that several share who stand, without the withdrawn."""
+        ranks = [word if isinstance(word, tuple) else (word,) for word in words]
+        shared = (place for place, rank in enumerate(ranks) if len([number for number in rank if number not in self.withdrawn]) > 1)
+        preferences = [number for rank in ranks[:next(shared, None)] for number in rank]
+        available = tuple(number for number in preferences if number not in self.withdrawn)
+        are_numbers = all(number in self.numbers for rank in ranks for number in rank)
+        if papers < 0 or len(set(preferences)) < len(preferences) or not are_numbers or not available:
+            raise Unreadable(f"no bundle: {papers} papers with the ranks {ranks}")
+        return Bundle(papers, available)
+
+def votes_text(value):
+    return f"{value // VOTE}.{value % VOTE:05}"
+
+def written(lines):
+    """Returns lines as bytes, those of names as they were read."""
+    return "".join(f"{line}\n" for line in lines).encode("utf-8", "surrogateescape")
+
+def blt(seats, bundles, names, rejected, ward_name, ward=1, gone=()):
+    """Returns the lines of a ballots file: its bundles are papers and preferences. It has no lot."""
+    def quoted(name):
+        return '"' + re.sub(r'(["\\])', r"\\\1", name) + '"'
+    papers = [f"{papers} {' '.join(map(str, named))} 0" for papers, named in bundles]
+    lines = [f"{len(names)} {seats}", *[" ".join(f"-{c}" for c in gone)] * bool(gone), *papers, "0", *map(quoted, names)]
+    rejected = ", ".join(f"{code}: {papers}" for code, papers in enumerate(rejected, 1))
+    return [*lines, quoted(ward_name), f"# Ward {ward}", f"# Rejected {rejected}"]
+
+class Count:
+    """The count of a ward: as many stages as its lots let it have.
+
+    A candidate has parcels, each with the value at which its papers came, and votes. Those of `None` are non-transferable. The letters are
+    those of the sheet: - for a continuing candidate, E at the stage of the election and e after it, x once excluded.
+    """
+
+    def __init__(self, ballots):
+        self.ballots, self.stages, self.figures, self.lost = ballots, [], [], 0
+        self.letters, self.votes = dict.fromkeys(ballots.names, "-"), dict.fromkeys([*ballots.names, None], 0)
+        self.parcels = {number: [] for number in self.votes}
+        # The quota: the papers divided by one more than the seats, the whole part of that, and one vote more.
+        self.valid = sum(bundle.papers for bundle in ballots.bundles)
+        self.quota = (self.valid // (ballots.seats + 1) + 1) * VOTE
+        # The lots that no stage has taken; and the stage that a lot is wanted for, with the tied.
+        self.lots, self.waits = dict(ballots.lots), None
+        # If there are no more candidates than seats all are elected, without a poll.
+        self.is_contested = len(self.letters) > ballots.seats
+        if self.is_contested:
+            # Each paper is laid before the candidate of its first preference, as one vote.
+            for bundle in ballots.bundles:
+                self.receive(bundle.preferences[0], VOTE, [bundle])
+            self.end_stage("first preferences")
+            while self.vacancies() and not self.waits:
+                self.next_stage()
+
+    def those(self, letters):
+        return [number for number, letter in self.letters.items() if letter in letters]
+
+    def vacancies(self):
+        return self.ballots.seats - len(self.those("Ee"))
+
+    def next_stage(self):
+        """Transfers the highest surplus; if there is none, excludes the continuing candidate with the fewest votes."""
+        surpluses = [number for number in self.those("Ee") if self.votes[number] > self.quota]
+        giver = self.foremost(surpluses, max) if surpluses else self.foremost(self.those("-"), min)
+        if giver and surpluses:
+            # All papers are handed on, each at its part of the surplus, and the quota stays. What they don't take with them, since their
+            # values are cut down, is lost.
+            surplus, credited = self.votes[giver] - self.quota, self.votes[giver]
+            self.lost += surplus - self.hand_on(giver, lambda received: surplus * received // credited)
+            self.votes[giver] = self.quota
+            self.end_stage(f"surplus of {giver}")
+        elif giver:
+            # The papers are handed on at the values at which they were received. If all the others are elected now, the votes stay.
+            self.letters[giver] = "x"
+            is_last = len(self.those("-")) == self.vacancies()
+            self.votes[giver] -= 0 if is_last else self.hand_on(giver, lambda received: received)
+            self.end_stage(f"exclusion of {giver}" + ", last vacancies" * is_last)
+
+    def foremost(self, tied, most):
+        """Returns the candidate with the most votes, or the fewest; None if a lot has to be drawn for that."""
+        # Between equal ones the latest stage before decides at which they weren't equal: the one with the most, or fewest, votes
+        # there is chosen. Between several who are equal there too the stages before it decide in turn, else a lot.
+        for figures in reversed(self.figures):
+            figure = most(figures[number] for number in tied)
+            tied = [number for number in tied if figures[number] == figure]
+        due = len(self.stages) + 1
+        if len(tied) == 1:
+            return tied[0]
+        if self.lots.get(due) in tied:
+            return self.lots.pop(due)
+        self.waits = due, tied
+        return None
+
+    def receive(self, number, value, bundles):
+        """Credits a candidate, or nobody, with papers at this value each. Returns what they are worth."""
+        worth = value * sum(bundle.papers for bundle in bundles)
+        self.parcels[number].append((value, bundles))
+        self.votes[number] += worth
+        return worth
+
+    def hand_on(self, giver, value_of):
+        """Hands on each parcel of a candidate, at a value made from the one at which it was received. Returns the worth of all."""
+        parcels, self.parcels[giver], worth = self.parcels[giver], [], 0
+        for value, bundles in parcels:
+            heaps = collections.defaultdict(list)
+            for bundle in bundles:
+                # To the continuing candidate whom these papers prefer next, if there is one.
+                after = bundle.preferences[bundle.preferences.index(giver) + 1:]
+                heaps[next((number for number in after if self.letters[number] == "-"), None)].append(bundle)
+            worth += sum(self.receive(receiver, value_of(value), heap) for receiver, heap in heaps.items())
+        return worth
+
+    def end_stage(self, action):
+        """Deems elected who has the quota, or is needed for the last vacancies, and writes the stage down."""
+        for number in self.those("E"):
+            self.letters[number] = "e"
+        is_last = len(self.those("-")) == self.vacancies()
+        for number in self.those("-"):
+            if is_last or self.votes[number] >= self.quota:
+                self.letters[number] = "E"
+        self.figures.append(dict(self.votes))
+        candidates = [f"{number:2} {votes_text(self.votes[number]):>13} {self.letters[number]} {name}"
+                      for number, name in self.ballots.names.items()]
+        self.stages.append(written([f"Stage {len(self.stages) + 1}: {action}", *candidates,
+                                    f"   {votes_text(self.votes[None]):>13} non-transferable",
+                                    f"   {votes_text(self.lost):>13} lost by fractions"]))
+
+    def sheet(self):
+        lines = [f"Ward {self.ballots.ward} {self.ballots.ward_name}", f"Seats {self.ballots.seats}, uncontested"]
+        if self.is_contested:
+            lines[1] = f"Seats {self.ballots.seats}, valid {self.valid}, quota {votes_text(self.quota)}"
+            lines.append("Rejected " + ", ".join(f"{code}: {papers}" for code, papers in zip(CODES, self.ballots.rejected)))
+        return written(lines) + b"".join(self.stages)
+
+    def declaration(self):
+        lines = [f"{number:2} {self.ballots.names[number]}" for number in self.those("Ee" if self.is_contested else "-")]
+        return written([f"Ward {self.ballots.ward} {self.ballots.ward_name}", "Elected", *lines])
