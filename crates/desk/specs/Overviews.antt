@@ -9,6 +9,7 @@ use Rattle.register.specs.Texts.{listed}
 use Rattle.register.specs.declared.polls.Judgement.{Judgement}
 use Rattle.register.specs.declared.polls.Judgement.TheVariants.{Valid, Rejected, Open}
 use Rattle.store.specs.Overviews.{BatchView, DifferencesView, DoubtfulPapersView, DoubtfulView, PaperView, PapersView, WardView}
+use Rattle.store.specs.declared.overviews.differences.Shift.{Shift}
 use Rattle.store.specs.declared.overviews.batches.BatchStanding.{BatchStanding}
 use Rattle.store.specs.declared.overviews.batches.BatchStanding.TheVariants.{Taken, Differing, Waiting}
 use Rattle.office.specs.Reads.{next_answer}
@@ -124,9 +125,16 @@ doubtful_line names v =
 
 -- ---- differences, and receipts
 
--- the line that lists the papers on which a batch's keyings differ
+-- the words that say from where on two keyings agree once the papers of one clerk are moved up by one
+unfoldable pub shift_words : Option Shift → Text
+shift_words None = []
+shift_words (Some shift) =
+    codes "; from " ++ (decimal shift.paper ++ (codes " on they agree when clerk " ++ (decimal shift.clerk ++ codes "'s are moved by one: a paper may have been left out or keyed twice")))
+
+-- the line that lists the papers on which a batch's keyings differ, and says if they look shifted
 unfoldable pub differences_line : DifferencesView → Text
-differences_line v = codes "batch " ++ (decimal v.batch.number ++ (codes " round " ++ (decimal v.batch.round ++ (codes " differs on papers " ++ listed v.papers))))
+differences_line v =
+    codes "batch " ++ (decimal v.batch.number ++ (codes " round " ++ (decimal v.batch.round ++ (codes " differs on papers " ++ (listed v.papers ++ shift_words v.shift)))))
 
 -- the line for a receipt: the actor, the id, the subject and the reply
 unfoldable pub receipt_line : ReceiptEntry → Text

@@ -10,7 +10,7 @@ ghost use Rattle.store.specs.Overviews.{batch_view, clerk_view, differences_view
 ghost use Rattle.tables.specs.Reading.{OnlyReads};
 ghost use Rattle.office.specs.Answers.{WhenOpenAt};
 ghost use Rattle.desk.specs.Parts.{IsAskedOf};
-ghost use Rattle.desk.specs.Overviews.{batch_line, differences_line, receipt_line, ward_line};
+ghost use Rattle.desk.specs.Overviews.{batch_line, differences_line, receipt_line, shift_words, ward_line};
 ghost use Rattle.desk.specs.Overviews.{clerk_words, elected_words, keyed_word, open_words, seats_words, size_words, standing_word, twin_words, untaken_words};
 ghost use Rattle.desk.specs.Pages.{failed, line, page_of, page_stopped, printed};
 
@@ -24,7 +24,7 @@ use paper::Columns;
 use register::Receipt;
 use sqlite::Alter;
 use std::alloc::{AllocError, Global};
-use store::{BatchOverview, BatchStanding, ClerkOverview, Differences, Fault, WardOverview};
+use store::{BatchOverview, BatchStanding, ClerkOverview, Differences, Fault, Shift, WardOverview};
 
 /// A value that is printed on one line.
 trait Lined {
@@ -212,14 +212,32 @@ impl Lined for BatchOverview {
 
 // ---- differences, and receipts
 
+#[tactic(auto, unfolding(crate::specs::Overviews::shift_words))]
+/// Returns the words that say from where on two keyings agree once the papers of one clerk are moved up by one; empty if there
+/// is no shift.
+fn shift_words(alloc: Global, shift: Option<Shift>) -> Result<String, AllocError>
+    ensures { IfOk result (λ text. string_bytes text ≡ shift_words shift) }
+{
+    match shift {
+        Some(shift) => {
+            let (paper, clerk) = (shift.paper, shift.clerk);
+            format!(in alloc;
+                "; from {paper} on they agree when clerk {clerk}'s are moved by one: a paper may have been left out or keyed twice"
+            )
+        }
+        None => Ok(String::new(alloc)),
+    }
+}
+
 #[tactic(auto, unfolding(crate::specs::Overviews::differences_line))]
-/// Returns the line that lists the papers on which a batch's keyings differ.
+/// Returns the line that lists the papers on which a batch's keyings differ, and says if they look shifted.
 fn differences_line(alloc: Global, found: &Differences) -> Result<String, AllocError>
     ensures { IfOk result (λ text. string_bytes text ≡ differences_line (differences_view found.now)) }
 {
     let (batch, round) = (found.batch.number, found.batch.round);
     let papers = listed(alloc, &found.papers)?;
-    format!(in alloc; "batch {batch} round {round} differs on papers {papers}")
+    let shift = shift_words(alloc, found.shift)?;
+    format!(in alloc; "batch {batch} round {round} differs on papers {papers}{shift}")
 }
 
 impl Lined for Receipt {

@@ -22,6 +22,8 @@ use Rattle.tables.proofs.ListLemmas.{get_mapped, mapped_length, mapped_twice}
 use Rattle.store.specs.Elections.{IsCountedIn, IsCountedInFor}
 use Rattle.store.specs.Overviews.{WardView, candidates_told, declared_in, PaperView, paper_view_of, papers_by, papers_of, judgements_told}
 use Rattle.store.specs.Overviews.{DoubtfulView, DoubtfulPapersView, doubtful_among, doubtful_in, doubtful_papers, has_alike, differs_in, differing_among, differing_papers}
+use Rattle.store.specs.Overviews.{earlier_shift, shift_among, shift_between}
+use Rattle.store.specs.declared.overviews.differences.Shift.{Shift}
 use Rattle.store.proofs.DoneLemmas.{wards_there}
 
 -- ---- lists
@@ -161,6 +163,36 @@ apart_two k (s ∷ ss) (t ∷ ts) = ap (λ b. not (has_alike k (s ∷ ss)) || b)
 apart_alone : (keying : List KeyedEntry) → differing_among [] keying ≡ []
 apart_alone [] = refl
 apart_alone (k ∷ ks) = apart_alone ks
+
+-- the first shift that exists, among one and none
+earlier_alone : (a : Option Shift) → earlier_shift (earlier_shift a None) None ≡ a
+earlier_alone None = refl
+earlier_alone (Some shift) = refl
+
+earlier_again : (a : Option Shift) → earlier_shift (earlier_shift a None) None ≡ earlier_shift a None
+earlier_again None = refl
+earlier_again (Some shift) = refl
+
+-- the first shift that exists, among three
+earlier_three : (a b c : Option Shift)
+    → earlier_shift (earlier_shift a (earlier_shift b None)) (earlier_shift (earlier_shift c None) None) ≡ earlier_shift a (earlier_shift b c)
+earlier_three (Some shift) b c = refl
+earlier_three None (Some shift) c = refl
+earlier_three None None (Some shift) = refl
+earlier_three None None None = refl
+
+-- the shift among three keyings, any of which may be missing
+pub shift_of_three : (first second third : List KeyedEntry)
+    → shift_among (of_three first second third)
+    ≡ earlier_shift (shift_between first second) (earlier_shift (shift_between first third) (shift_between second third))
+shift_of_three [] [] [] = refl
+shift_of_three [] [] (k ∷ ks) = refl
+shift_of_three [] (j ∷ js) [] = refl
+shift_of_three [] (j ∷ js) (k ∷ ks) = earlier_alone (shift_between (j ∷ js) (k ∷ ks))
+shift_of_three (i ∷ is) [] [] = refl
+shift_of_three (i ∷ is) [] (k ∷ ks) = earlier_again (shift_between (i ∷ is) (k ∷ ks))
+shift_of_three (i ∷ is) (j ∷ js) [] = earlier_again (shift_between (i ∷ is) (j ∷ js))
+shift_of_three (i ∷ is) (j ∷ js) (k ∷ ks) = earlier_three (shift_between (i ∷ is) (j ∷ js)) (shift_between (i ∷ is) (k ∷ ks)) (shift_between (j ∷ js) (k ∷ ks))
 
 -- how three keyings differ, any of which may be missing
 pub apart_three : (first second third : List KeyedEntry)

@@ -1,5 +1,5 @@
 -- Overviews for the office only: its wards; the batches of a ward, and their papers as counted; doubtful papers; differences between keyings; and receipts.
-use Rattle.std.specs.Prelude.{ℕ, Bool, not, ◌==◌, ◌&&◌, ◌++◌, if◌then◌else◌, List, [], ◌∷◌, map, find, codes, Option, Some, None, option_map}
+use Rattle.std.specs.Prelude.{ℕ, Bool, true, not, nat_lt, ◌==◌, ◌&&◌, ◌||◌, ◌++◌, if◌then◌else◌, List, [], ◌∷◌, map, find, length, codes, Option, Some, None, option_map}
 use Rattle.std.specs.List.{filter, flat_map, list_any}
 use Rattle.std.specs.Fmt.{decimal}
 use Rattle.std.specs.Str.{bytes_eq}
@@ -21,6 +21,7 @@ use Rattle.store.specs.declared.overviews.papers.CountedPapers.{CountedPapers}
 use Rattle.store.specs.declared.overviews.doubtful.DoubtfulPaper.{DoubtfulPaper}
 use Rattle.store.specs.declared.overviews.doubtful.DoubtfulPapers.{DoubtfulPapers}
 use Rattle.store.specs.declared.overviews.differences.Differences.{Differences}
+use Rattle.store.specs.declared.overviews.differences.Shift.{Shift}
 
 -- ---- the wards
 
@@ -204,14 +205,57 @@ abbrev pub differing_papers : List (List KeyedEntry) → List ℕ
 differing_papers [] = []
 differing_papers (keying ∷ others) = differing_among others keying
 
--- a batch, whether its keyings differ, and the papers on which the keyings of its current round differ
+-- whether the papers of two keyings have the same marks, one by one, as far as both have papers
+abbrev pub agree_along : List KeyedEntry → List KeyedEntry → Bool
+agree_along (j ∷ js) (k ∷ ks) = bytes_eq j.marks k.marks && agree_along js ks
+agree_along js ks = true
+
+-- two keyings from the first paper on which they have different marks; empty if there is none
+abbrev pub apart_in : List KeyedEntry → List KeyedEntry → List KeyedEntry × List KeyedEntry
+apart_in (j ∷ js) (k ∷ ks) = if bytes_eq j.marks k.marks then apart_in js ks else (j ∷ js, k ∷ ks)
+apart_in js ks = ([], [])
+
+-- Papers of two keyings, starting with one on which they differ, that agree once those of one clerk are moved up by one: the number of that first paper, and the
+-- clerk. At least three papers must agree.
+abbrev pub shift_at : KeyedEntry → List KeyedEntry → KeyedEntry → List KeyedEntry → Option Shift
+shift_at j js k ks =
+    if nat_lt (length js) 3 || nat_lt (length ks) 3 then None
+    else if agree_along js (k ∷ ks) then Some (record { paper = j.paper; clerk = j.clerk })
+    else if agree_along (j ∷ js) ks then Some (record { paper = k.paper; clerk = k.clerk })
+    else None
+
+abbrev pub shift_in : List KeyedEntry × List KeyedEntry → Option Shift
+shift_in (j ∷ js, k ∷ ks) = shift_at j js k ks
+shift_in apart = None
+
+-- from where on two keyings agree once the papers of one clerk are moved up by one, if they do
+abbrev pub shift_between : List KeyedEntry → List KeyedEntry → Option Shift
+shift_between first second = shift_in (apart_in first second)
+
+-- the first of two shifts that exists
+abbrev pub earlier_shift : Option Shift → Option Shift → Option Shift
+earlier_shift None other = other
+earlier_shift (Some shift) other = Some shift
+
+-- the shift between a keying and the first of some others that agrees with it so
+abbrev pub shift_from : List KeyedEntry → List (List KeyedEntry) → Option Shift
+shift_from keying [] = None
+shift_from keying (other ∷ others) = earlier_shift (shift_between keying other) (shift_from keying others)
+
+-- the shift between the first two keyings of a round that agree so
+abbrev pub shift_among : List (List KeyedEntry) → Option Shift
+shift_among [] = None
+shift_among (keying ∷ others) = earlier_shift (shift_from keying others) (shift_among others)
+
+-- a batch, whether its keyings differ, the papers on which the keyings of its current round differ, and the shift between two of them
 pub record DifferencesView : Type 0 where
   pub batch : BatchEntry
   pub differs : Bool
   pub papers : List ℕ
+  pub shift : Option Shift
 
 abbrev pub differences_by : BatchEntry → List (List KeyedEntry) → DifferencesView
-differences_by b keyings = record { batch = b; differs = differ keyings; papers = differing_papers keyings }
+differences_by b keyings = record { batch = b; differs = differ keyings; papers = differing_papers keyings; shift = shift_among keyings }
 
 abbrev pub differences_of : OfficeState → BatchEntry → DifferencesView
 differences_of s b = differences_by b (keyings_now s b)
@@ -251,4 +295,4 @@ abbrev pub doubtful_papers_view : DoubtfulPapers → DoubtfulPapersView
 doubtful_papers_view d = record { candidates = map candidate_entry d.candidates.items; papers = map doubtful_view d.papers.items }
 
 abbrev pub differences_view : Differences → DifferencesView
-differences_view d = record { batch = batch_entry d.batch; differs = d.differs; papers = d.papers.items }
+differences_view d = record { batch = batch_entry d.batch; differs = d.differs; papers = d.papers.items; shift = d.shift }

@@ -46,7 +46,7 @@ pub use earlier_keyings::KeyedRound;
 pub use migration::{Migrated, migrate};
 pub use overviews::batches::{BatchOverview, BatchStanding};
 pub use overviews::clerks::ClerkOverview;
-pub use overviews::differences::Differences;
+pub use overviews::differences::{Differences, Shift};
 pub use overviews::doubtful::{DoubtfulPaper, DoubtfulPapers};
 pub use overviews::papers::{CountedPaper, CountedPapers, papers_told_are_counted};
 pub use overviews::wards::{WardOverview, elected_in};

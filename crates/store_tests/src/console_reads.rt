@@ -57,7 +57,7 @@ const WHILE_IT_DIFFERS: [Read; 12] = [
         "/office/batches/12/differences",
         OFFICE,
         READ,
-        r#"{"batch":12,"papers":[1],"round":1}"#,
+        r#"{"batch":12,"papers":[1],"round":1,"shifted_clerk":0,"shifted_from":0}"#,
     ),
     (
         "/office/batches/12/papers",

@@ -15,6 +15,7 @@ use Rattle.register.specs.declared.phase.Phase.{Phase}
 use Rattle.register.specs.declared.phase.Phase.TheVariants as phase
 use Rattle.register.specs.declared.polls.Judgement.{Judgement}
 use Rattle.register.specs.declared.polls.Judgement.TheVariants as judged
+use Rattle.store.specs.declared.overviews.differences.Shift.{Shift}
 use Rattle.store.specs.Overviews.{BatchView, DifferencesView, DoubtfulPapersView, DoubtfulView, PaperView, PapersView, WardView}
 use Rattle.store.specs.declared.overviews.batches.BatchStanding.{BatchStanding}
 use Rattle.store.specs.declared.overviews.batches.BatchStanding.TheVariants.{Taken, Differing, Waiting}
@@ -230,11 +231,22 @@ doubtful_papers_data ward v = object
 
 -- ---- differences and receipts
 
+-- the clerk whose papers are shifted, and the paper from which on they are; 0 if there is no shift
+abbrev pub shifted_clerk : Option Shift → ℕ
+shifted_clerk None = 0
+shifted_clerk (Some shift) = shift.clerk
+
+abbrev pub shifted_from : Option Shift → ℕ
+shifted_from None = 0
+shifted_from (Some shift) = shift.paper
+
 abbrev pub differences_data : ℕ → DifferencesView → Data
 differences_data batch v = object
     (member (codes "batch") (number_data batch)
     (member (codes "papers") (numbers_data v.papers)
-    (member (codes "round") (number_data v.batch.round) no_members)))
+    (member (codes "round") (number_data v.batch.round)
+    (member (codes "shifted_clerk") (number_data (shifted_clerk v.shift))
+    (member (codes "shifted_from") (number_data (shifted_from v.shift)) no_members)))))
 
 abbrev pub receipt_data : ReceiptEntry → Data
 receipt_data r = object

@@ -34,18 +34,9 @@ const third = async (ward, it) => {
   else await orderWithId(`give batch ${it.batch} to teller ${clerk} as the third teller`, ['third', it.batch, clerk]);
 };
 
-// Returns the first of at least four papers that differ up to the end of the batch, or 0: a paper may have been left out or keyed twice there.
-const shiftIn = (papers, size) => {
-  let first = papers.length;
-  while (first > 0 && papers[first - 1] === size - (papers.length - first)) first -= 1;
-  return papers.length - first >= 4 ? papers[first] : 0;
-};
-
-const differencesText = (it, papers) => {
-  const shift = shiftIn(papers, it.size);
-  return [made('p', {}, `The keyings differ on ${papers.length === 1 ? 'paper' : `${papers.length} papers:`} ${firstOf(papers, 40)}. Don\u2019t tell the tellers.`),
-    shift ? made('p', {}, made('b', {}, `Every paper from ${shift} on differs: a paper may have been left out or keyed twice there.`)) : ''];
-};
+const differencesText = (it, {papers, shifted_clerk: clerk, shifted_from: from}) =>
+  [made('p', {}, `The keyings differ on ${papers.length === 1 ? 'paper' : `${papers.length} papers:`} ${firstOf(papers, 40)}. Don\u2019t tell the tellers.`),
+    from ? made('p', {}, made('b', {}, `From paper ${from} on they agree when the papers of teller ${clerk} are moved by one: a paper may have been left out or keyed twice there.`)) : ''];
 
 const paperText = (candidates, it) => {
   if (it.state === 'valid') return preferencesOf(candidates, it.preferences);
@@ -68,7 +59,7 @@ const readOpened = async (it) => {
   }
   const {says, why} = await read(`batches/${it.batch}/${opened.what}`);
   if (why) return [made('p', {}, why)];
-  if (opened.what === 'differences') return differencesText(it, says.papers);
+  if (opened.what === 'differences') return differencesText(it, says);
   return [made('p', {className: 'acts'}, button('Print list', () => printText(`Papers of batch ${it.batch}`, papersTable(says)))), papersTable(says)];
 };
 
