@@ -1,4 +1,4 @@
-//! The file of a copy. It is created only if nothing has that name yet, and removed again if no copy results.
+//! The file of a copy or of a mended office. It is created only if nothing has that name yet, and removed again if none results.
 
 use crate::file_lock::FileLock;
 use crate::path_state::{LOG_ENDINGS, MIN_OFFICE, RIGHTS, is_no_file, length_at};
@@ -7,7 +7,7 @@ use std::fs;
 use std::io::{self, ErrorKind};
 use store::Fault;
 
-/// The file of a copy, which this program has created and keeps locked; and its log, which `sqlite` creates with the file's
+/// The file of a copy or of a mended office, which this program has created and keeps locked; and its log, which `sqlite` creates with the file's
 /// permissions when it opens the file.
 #[derive(Drop)]
 pub struct NewFile {

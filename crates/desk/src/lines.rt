@@ -481,10 +481,10 @@ fn tell_noted<O: Sink, E: Sink>(
 }
 
 /// Prints an outcome and returns its status. The status is 0 if the outcome is printed to the output. If it is printed to the
-/// error output, the status is 3 for a fault or a file that couldn't be read, and 1 otherwise. Status 1 is for the refusal of a
-/// request or a file, and for the lack of a seal, a form, a journal or a mended office. The status is also 3 if either output
-/// fails, in which case only a prefix was written to it. If the outcome is that of a script's line, what is printed to the error
-/// output begins with the line number.
+/// error output, the status is 3 for a fault or a file that couldn't be read, and 1 otherwise. Status 1 means that a request or a
+/// file was refused, or that no seal, form, journal or mended office was made. The status is also 3 if either output fails, in
+/// which case only a prefix was written to it. If the outcome is that of a script's line, what is printed to the error output
+/// begins with the line number.
 pub(crate) fn tell<O: Sink, E: Sink>(
     line: Option<usize>,
     outcome: &LineOutcome,

@@ -104,7 +104,7 @@ fn orders_in(alloc: Global, lines: &[String]) -> Result<Vec<Request>, LineOutcom
 
 // ---- the existing office
 
-/// Returns the orders in the journal of the office with these rows, or the outcome if there are none. Replays them in the empty
+/// Returns the orders in the journal of the office with these rows, or the outcome to print if it has no journal. Replays them in the empty
 /// database of a connection, which is returned.
 fn orders_of<T: Alter>(
     alloc: Global,
@@ -240,7 +240,7 @@ fn text_of(
 
 // ---- the new office
 
-/// The new office before it is copied to its file.
+/// The mended office in memory, before it is copied to the new database.
 struct NewOffice<T: Alter> {
     office: Office<T>,
 }

@@ -27,7 +27,7 @@ use crate::scripts::{
 use crate::sealing::seal_of;
 use crate::sending::{combined_status, goes_on, send_all};
 use crate::steps::next_of;
-use crate::ward_status::standing_of;
+use crate::ward_status::ward_status_of;
 use office::Office;
 use sqlite::Alter;
 use std::alloc::Global;
@@ -97,7 +97,7 @@ fn run<S: Alter, F: Folder, O: Sink, E: Sink>(
             Err(_) => tell(line, &LineOutcome::Failed(Fault::Memory), out, err),
         },
         Errand::PrintNext { ward } => tell(line, &next_of(alloc, office, *ward), out, err),
-        Errand::PrintStatus { ward } => tell(line, &standing_of(alloc, office, *ward), out, err),
+        Errand::PrintStatus { ward } => tell(line, &ward_status_of(alloc, office, *ward), out, err),
         Errand::Print { ward, text } => tell(line, &text_of(office, *ward, *text), out, err),
         Errand::PrintIndex { title } => tell(line, &index_of(office, title), out, err),
         Errand::Ask(question) => tell(line, &answer_to(alloc, office, *question), out, err),

@@ -68,7 +68,11 @@ pub(crate) fn status_text(alloc: Global, status: &Status) -> Result<String, Allo
 }
 
 /// Returns a ward's status in words, or the reason why it isn't available.
-pub(crate) fn standing_of<S: Alter>(alloc: Global, office: &mut Office<S>, ward: u32) -> LineOutcome
+pub(crate) fn ward_status_of<S: Alter>(
+    alloc: Global,
+    office: &mut Office<S>,
+    ward: u32,
+) -> LineOutcome
     ensures found { WhenOpenAt (state S.Store) office.old office.new
         (λ s. IsFound s (λ status. replied (status_text status)) (status_answer s ward) (page_of result) office.new.closed (state S.Store office.old.held) (state S.Store office.new.held)) }
     ensures same { OnlyReads (state S.Store office.old.held) (state S.Store office.new.held) }

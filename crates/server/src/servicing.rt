@@ -181,7 +181,7 @@ fn written(alloc: Global, response: &Response) -> PendingResponse
     }
 }
 
-/// Returns the response to a client that is admitted, given the bytes received from it; none of the response has been sent yet.
+/// Returns the response to a client that needn't wait, given the bytes received from it; none of the response has been sent yet.
 /// The cache is emptied before a keying or an order, and if an allocation for the request fails.
 fn answer_request<A: ServedFile, S: Alter>(
     server_settings: ServerSettings<'_, A>,

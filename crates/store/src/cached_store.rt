@@ -124,7 +124,7 @@ impl<S: Alter> CachedStore<S> {
     }
 
     /// Opens the office in the connection's database, as `Store::open_from` does. If the database has exactly the
-    /// tables of an office, the standing of each batch is read into the cache.
+    /// tables of an office, the overview of each batch is read into the cache.
     pub fn open_from(alloc: Global, conn: Connection<S>) -> Result<Self, (Fault, Connection<S>)>
         ensures opened { IfOk result (λ cached_store. HasCleanDisk (state S.Store cached_store) → (db : Database) → IsOurs db.schema → RestsAt db (state S.Store conn)
             → (s : OfficeState) × HoldsState db s × IsAt s (state S.Store cached_store)) }

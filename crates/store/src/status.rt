@@ -58,7 +58,7 @@ pub(crate) fn both(some: Tally, others: Tally) -> Tally
 }
 
 /// Returns the tally of a batch, from its keyings and the verdicts on its papers.
-fn standing(keyings: &Keyings, verdicts: &[JudgedPaper]) -> Tally
+fn tally_by(keyings: &Keyings, verdicts: &[JudgedPaper]) -> Tally
     ensures { result ≡ tally_by keyings.now verdicts.now }
 {
     let papers = keyings.agreed();
@@ -85,7 +85,7 @@ impl<S: Alter> Store<S> {
         ensures { Loads S.Store self.old self.new result (λ s. IsTally s (batch_entry batch.now ∷ [])) }
     {
         let papers = self.papers_of(batch)?;
-        Ok(standing(&papers.keyings, &papers.verdicts))
+        Ok(tally_by(&papers.keyings, &papers.verdicts))
     }
 
     /// Returns the tally of the given batches, which are read one after another.

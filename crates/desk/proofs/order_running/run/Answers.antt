@@ -241,7 +241,7 @@ pub returns-in-PrintStatus-clause-ran : goal.returns-in-PrintStatus-clause-ran
 returns-in-PrintStatus-clause-ran g c =
     let told = c.tell-in-PrintStatus.ensures in
     record {
-      page = fronted c.args.line (page_of c.standing_of.result);
+      page = fronted c.args.line (page_of c.ward_status_of.result);
       cut = told.0;
       shown = told.1;
       is = λ clean is_open s at. (
@@ -250,9 +250,9 @@ returns-in-PrintStatus-clause-ran g c =
         (
           _,
           c.opened-file.ensures,
-          rw c.in-PrintStatus.is (inr (unsent_told (state g.S.Store c.args.office.now.held) c.standing_of.new.office.closed
-              (state g.S.Store c.standing_of.new.office.held) c.args.keep_going c.args.line _ s (page_of c.standing_of.result) told.0
-              (c.standing_of.ensures.found clean is_open s at))),
+          rw c.in-PrintStatus.is (inr (unsent_told (state g.S.Store c.args.office.now.held) c.ward_status_of.new.office.closed
+              (state g.S.Store c.ward_status_of.new.office.held) c.args.keep_going c.args.line _ s (page_of c.ward_status_of.result) told.0
+              (c.ward_status_of.ensures.found clean is_open s at))),
         ),
       );
     }

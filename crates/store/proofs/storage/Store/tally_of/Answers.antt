@@ -13,5 +13,5 @@ returns g c =
     let papers = c.in_ok-papers.papers in
     loads_as c.in_ok-papers.ensures
     (λ s is told.
-    subst (IsTally s (b ∷ [])) (sym (rw c.deref.ensures.value at c.standing.ensures))
+    subst (IsTally s (b ∷ [])) (sym (rw c.deref.ensures.value at c.tally_by.ensures))
     (one_tally s b papers.keyings papers.verdicts.items (ap (λ (p : Pile). p.keyings) told) (ap (λ (p : Pile). p.verdicts) told)))
