@@ -104,8 +104,8 @@ fn orders_in(alloc: Global, lines: &[String]) -> Result<Vec<Request>, LineOutcom
 
 // ---- the existing office
 
-/// Returns the orders in the journal of the office with these rows, or the outcome to print if it has no journal. Replays them in the empty
-/// database of a connection, which is returned.
+/// Returns the orders in the journal of the office with these rows, or the outcome to print if it has no journal. Replays them
+/// in the empty database of a connection, which is returned.
 fn orders_of<T: Alter>(
     alloc: Global,
     rows: &Rows,
