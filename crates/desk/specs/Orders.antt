@@ -183,7 +183,7 @@ pub data Meant : Type 0 where
   replay : Text → Bool → Meant
   copy : Text → Meant
   journal : Meant
-  mend : Text → List Text → List Text → Meant
+  mend : Bool → Text → List Text → List Text → Meant
   make_codes : Text → Text → Bool → Meant
   print_slips : Text → Text → Meant
   serve : ℕ → Option ℕ → Option Text → Option Text → Option Text → Meant
@@ -220,7 +220,7 @@ told (order.Perform (task.InOffice (job.Run errand))) = told_errand errand
 told (order.Perform (task.InOffice (job.Replay file keep_going))) = replay file.now keep_going
 told (order.Copy path) = copy path.now
 told order.Journal = journal
-told (order.Mend m) = mend m.path.now (map string_bytes m.without.items) (map string_bytes m.instead.items)
+told (order.Mend m) = mend m.takes_over m.path.now (map string_bytes m.without.items) (map string_bytes m.instead.items)
 told (order.Codes path clerks with_office) = make_codes path.now clerks.now with_office
 told (order.Slips path address) = print_slips path.now (origin_text address)
 told (order.Serve port connections origin file public) =
@@ -354,7 +354,8 @@ orders =
     ∷ takes (codes "journal") [] journal
     ∷ takes (codes "replay") (text (codes "FILE") ∷ flag (codes "keep-going") ∷ []) replay
     ∷ takes (codes "copy") (text (codes "NEW") ∷ []) copy
-    ∷ takes (codes "mend") (text (codes "NEW") ∷ options (codes "without") ∷ options (codes "with") ∷ []) mend
+    ∷ takes (codes "mend") (text (codes "NEW") ∷ options (codes "without") ∷ options (codes "with") ∷ []) (mend false)
+    ∷ takes (codes "switch") (text (codes "NEW") ∷ options (codes "without") ∷ options (codes "with") ∷ []) (mend true)
     ∷ takes (codes "codes") (text (codes "FILE") ∷ text (codes "CLERKS") ∷ flag (codes "office") ∷ []) make_codes
     ∷ takes (codes "forms") (text (codes "FORM") ∷ text (codes "SOURCE") ∷ origin (codes "address") ∷ []) form_meant
     ∷ takes (codes "ballots") (number (codes "WARD") ∷ []) (λ ward. print ward ward_text.Ballots)

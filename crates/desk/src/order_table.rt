@@ -8,7 +8,7 @@
 
 ghost use Rattle.std.specs.Prelude.{◌≡◌, ◌⊎◌, false, Err, None, Some, codes, drop, map, take, IfErr, IfOk, IfSome, option_map, string_bytes};
 ghost use Rattle.clap.specs.Words.{all_of, first_of, found_of, rows_of, subcommand_rows_of};
-ghost use Rattle.desk.specs.Orders.{ask, form_meant, form_of_ward, no_digest, no_form, no_origin, no_verdict, orders, print, title_alone, told, told_errand, told_text, ward_form_in, words_of};
+ghost use Rattle.desk.specs.Orders.{ask, form_meant, form_of_ward, mend, no_digest, no_form, no_origin, no_verdict, orders, print, title_alone, told, told_errand, told_text, ward_form_in, words_of};
 ghost use Rattle.desk.specs.Numbers.{number_in as number_of};
 ghost use Rattle.keyfile.specs.Digests.{digest_bytes};
 ghost use Rattle.origins.specs.Origins.{origin_text};
@@ -73,7 +73,7 @@ const ORDERS_TO_SEAL: [Entry; 13] = [
 /// The other orders: those from the seal on, in the same order; then `migrate`; then those for the office alone; and then those for
 /// everyone.
 #[rattlefmt::skip]
-const ORDERS_FROM_SEAL: [Entry; 27] = [
+const ORDERS_FROM_SEAL: [Entry; 28] = [
     order!(Election "seal" [WARD, ID, PAPERS], "Seals a ward whose papers are all agreed and judged:\ncount-office town.db seal 7 --id s1"),
     order!(Election "advance" [WARD, ID], "Counts the one stage that is due in a sealed ward:\ncount-office town.db advance 7 --id a1"),
     order!(Election "count" [WARD, ID], "Counts a sealed ward up to a lot or the end, its first stage under ID-1:\ncount-office town.db count 7 --id a"),
@@ -96,6 +96,8 @@ const ORDERS_FROM_SEAL: [Entry; 27] = [
     order!(Office "copy" [NEW], "Makes a copy of the office, in a file that isn't there yet:\ncount-office town.db copy evening.db"),
     order!(Office "mend" [NEW_OFFICE, WITHOUT, WITH],
         "Makes a new office from the journal, without some orders, or with others in their place:\ncount-office town.db mend new.db --with \"judge 13 6 reject:4 --id v2\""),
+    order!(Office "switch" [NEW_OFFICE, WITHOUT, WITH],
+        "Makes a new office as mend does, and puts it in the place of this one, also while it is served:\ncount-office town.db switch new.db --with \"judge 13 6 reject:4 --id v2\""),
     order!(Office "codes" [CODES_FILE, CLERKS, WITH_OFFICE], "Writes a new file of codes, one for each of these clerks:\ncount-office town.db codes codes.txt 1-40"),
     order!(Office "forms" [FORM, SOURCE, ADDRESS], "Prints a form of a ward, or slips of clerks, as a page for a browser:\ncount-office town.db forms covers 7"),
     order!(Everyone "ballots" [WARD], "Prints the ballots of a sealed ward, in a form that counting programs read:\ncount-office town.db ballots 7"),
@@ -436,15 +438,20 @@ fn replay<'a>(matches: &ArgMatches<'a>) -> Order<'a>
     }))
 }
 
-/// Returns the order that makes a new office from this one's journal.
-fn mending<'a>(alloc: Global, matches: &ArgMatches<'a>) -> Result<Order<'a>, NoOrder>
-    ensures ok { IfOk result (λ o. meaning_of (codes "mend") (rows_of (found_of matches.now)) ≡ Some (told o)) }
+/// Returns the order that makes a new office from this one's journal, and says whether the new one takes over.
+fn mending<'a>(
+    alloc: Global,
+    matches: &ArgMatches<'a>,
+    takes_over: bool,
+) -> Result<Order<'a>, NoOrder>
+    ensures ok { IfOk result (λ o. told o ≡ mend takes_over (text_at (codes "NEW") (rows_of (found_of matches.now))) (texts_at (codes "without") (rows_of (found_of matches.now))) (texts_at (codes "with") (rows_of (found_of matches.now)))) }
     ensures err { IfErr result (λ why. why ≡ NoOrder.Memory) }
 {
     Ok(Order::Mend(MendOrder {
         path: text_in(matches, NEW_OFFICE),
         without: texts_copied(alloc, matches, WITHOUT)?,
         instead: texts_copied(alloc, matches, WITH)?,
+        takes_over,
     }))
 }
 
@@ -636,7 +643,8 @@ fn order_named<'a>(
         "copy" => Ok(Order::Copy {
             path: text_in(matches, NEW),
         }),
-        "mend" => mending(alloc, matches),
+        "mend" => mending(alloc, matches, false),
+        "switch" => mending(alloc, matches, true),
         "codes" => Ok(Order::Codes {
             path: text_in(matches, CODES_FILE),
             clerks: text_in(matches, CLERKS),

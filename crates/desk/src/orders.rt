@@ -173,13 +173,14 @@ impl<'a> Task<'a> {
     }
 }
 
-/// An order to mend: the path of the new office, the names of the orders to leave out, and the orders that replace others, each as a
-/// line of a script.
+/// An order to mend: the path of the new office, the names of the orders to leave out, the orders that replace others, each as a
+/// line of a script, and whether the new office then takes the place of the old one.
 #[derive(Debug, Drop)]
 pub struct MendOrder<'a> {
     pub path: &'a str,
     pub without: Vec<String>,
     pub instead: Vec<String>,
+    pub takes_over: bool,
 }
 
 /// What the program is asked to do.
@@ -194,6 +195,7 @@ pub enum Order<'a> {
     /// Print the journal of the office.
     Journal,
     /// Make a new office, in a file that doesn't exist yet, from this one's journal, with some orders left out and others replaced.
+    /// If it takes over, it then takes the place of this office.
     Mend(MendOrder<'a>),
     /// Write a new codes file, which must not exist yet, for the clerks that a word names, and for the office too if requested.
     Codes {

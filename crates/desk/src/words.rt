@@ -40,6 +40,7 @@ const END_OF_HELP: &str =
   replay FILE        Sends the orders of a text file, one per line, up to a refusal
   copy NEW           Makes a copy of the office, in a file that isn't there yet
   mend NEW           Makes a new office without some orders, or with others in their place
+  switch NEW         The same, and puts it in the place of this one, also while it is served
   codes FILE CLERKS  Writes a new file of codes for clerks, such as 1-40, to cut into slips
   forms FORM SOURCE  A form as a page to print (HTML): covers, adjudication, lots or declaration
                      of a ward, or slips of a file of codes
