@@ -1,1 +1,2 @@
 -- Shared lemmas of the proofs for the forms.
+pub mod Markup

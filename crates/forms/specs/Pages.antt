@@ -1,8 +1,8 @@
 -- What all forms share: escaped texts, names whose writing direction is isolated, and the page that contains a form.
-use Rattle.std.specs.Prelude.{ℕ, ◌==◌, if◌then◌else◌, List, ◌++◌, codes}
+use Rattle.std.specs.Prelude.{◌≡◌, ℕ, Bool, true, not, ◌==◌, ◌||◌, if◌then◌else◌, List, ◌++◌, codes}
 use Rattle.std.specs.Char.{encode_utf8}
 use Rattle.std.specs.Fmt.{decimal}
-use Rattle.std.specs.List.{flat_map}
+use Rattle.std.specs.List.{flat_map, list_all}
 use Rattle.std.specs.Str.{chars}
 
 -- a text, as its bytes
@@ -25,6 +25,14 @@ escaped text = flat_map escaped_character (chars text)
 -- an ASCII text on a page, escaped in the same way
 abbrev pub escaped_ascii : Text → Text
 escaped_ascii text = flat_map escaped_character text
+
+-- whether a byte can begin or end a tag or an attribute: `<`, `>`, `"` or `'`
+abbrev pub is_markup : ℕ → Bool
+is_markup byte = byte == 60 || (byte == 62 || (byte == 34 || byte == 39))
+
+-- no byte of the text is markup
+abbrev pub HasNoMarkup : Text → Type 0
+HasNoMarkup text = list_all (λ byte. not (is_markup byte)) text ≡ true
 
 -- a number and a name, such as `7 <bdi>Harbour</bdi>`; the writing direction of the name doesn't affect the surrounding text
 unfoldable pub named : ℕ → Text → Text

@@ -1,7 +1,7 @@
 //! Escapes texts so that a page never treats them as markup.
 
 ghost use Rattle.std.specs.Prelude.{◌≡◌, ◌++◌, IfOk, OnOk, string_bytes};
-ghost use Rattle.forms.specs.Pages.{escaped, escaped_ascii, escaped_character, named};
+ghost use Rattle.forms.specs.Pages.{HasNoMarkup, escaped, escaped_ascii, escaped_character, named};
 
 use std::alloc::{AllocError, Global};
 
@@ -21,7 +21,8 @@ fn put_escaped(character: char, text: &mut String) -> Result<(), AllocError>
 
 /// Returns a text, escaped for a page.
 pub(crate) fn escaped(alloc: Global, text: &str) -> Result<String, AllocError>
-    ensures { IfOk result (λ escaped_text. string_bytes escaped_text ≡ escaped text.now) }
+    ensures is { IfOk result (λ escaped_text. string_bytes escaped_text ≡ escaped text.now) }
+    ensures plain { IfOk result (λ escaped_text. HasNoMarkup (string_bytes escaped_text)) }
 {
     let mut escaped_text = String::new(alloc);
     for character in text.chars() {
@@ -32,7 +33,8 @@ pub(crate) fn escaped(alloc: Global, text: &str) -> Result<String, AllocError>
 
 /// Returns an ASCII text, escaped for a page.
 pub(crate) fn escaped_ascii(alloc: Global, text: &[u8]) -> Result<String, AllocError>
-    ensures { IfOk result (λ escaped_text. string_bytes escaped_text ≡ escaped_ascii text.now) }
+    ensures is { IfOk result (λ escaped_text. string_bytes escaped_text ≡ escaped_ascii text.now) }
+    ensures plain { IfOk result (λ escaped_text. HasNoMarkup (string_bytes escaped_text)) }
 {
     let mut escaped_text = String::new(alloc);
     for byte in text {
