@@ -109,15 +109,13 @@ pub record ServesAtNetwork {L S : Type 0} (settings : ServerSettingsEntry) (stre
   pub closed : old.closed ≡ true → new ≡ old
   pub clean : HasCleanDisk (state_of new.held) → HasCleanDisk (state_of old.held)
 
--- the failure to print for a result
-abbrev pub failure_by : ServeError → Failure
-failure_by ended.Memory = Office fault.Memory
-failure_by ended.Network = Output
-failure_by ended.Rounds = Output
-
+-- the failure to print for a result; there is none if a new office took the place of the one that was served
 abbrev pub outcome_by : Result (Unit {0}) ServeError → Result (Unit {0}) Failure
 outcome_by (Ok end) = Ok end
-outcome_by (Err why) = Err (failure_by why)
+outcome_by (Err ended.Moved) = Ok tt
+outcome_by (Err ended.Memory) = Err (Office fault.Memory)
+outcome_by (Err ended.Network) = Err Output
+outcome_by (Err ended.Rounds) = Err Output
 
 -- no connection was accepted or closed on any other port
 abbrev pub IsElsewhereSame : {L : Type 0} → ℕ → (ℕ → NetworkEntry L) → (ℕ → NetworkEntry L) → Type 0
