@@ -84,8 +84,8 @@ use std::{env, io};
 use store::Fault;
 use streams::{Counted, Sink};
 
-/// A locked database: its path as given, what exists there, and its file; those of the order's files that have already been
-/// read, if any; and whether it is that of a new office that takes the place of one that was served, and what is left of that one.
+/// A locked database: its path as given, what exists there, and its file; and those of the order's files that have already been
+/// read, if any. Also whether it is that of a new office, which takes the place of one that was served, and what is left of that.
 #[derive(Clone, Copy)]
 pub struct LockedDatabase<'a> {
     pub rt: &'a HostRuntime,

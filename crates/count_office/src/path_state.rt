@@ -36,7 +36,7 @@ const WRITING_BY_OTHERS: u32 = 0o022;
 /// The user id of root.
 const ROOT: u32 = 0;
 
-/// The suffixes that are appended to a database's name to form the names of files that belong to it: the log of `sqlite`, the journal
+/// The suffixes that are appended to a database's name to form the names of other files. These are the log of `sqlite`, the journal
 /// that other programs using SQLite play back into a database, and the note that another office took its place.
 pub const ENDINGS: [&str; 3] = [LOG, JOURNAL, MOVED];
 

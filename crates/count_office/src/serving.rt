@@ -5,7 +5,8 @@ ghost use Rattle.sqlite.specs.Held.{state};
 ghost use Rattle.desk.specs.Pages.{IsErrorTold};
 ghost use Rattle.connections.specs.Streams.{stream_of};
 ghost use Rattle.wire.specs.Origins.{origin_setting};
-ghost use Rattle.count_office.specs.Serving.{MayServe, MendedIsKept, ServesAtNetwork, ServesOrder, TellsOutcome, gate_at, outcome_by, public_at, public_in, public_with, server_settings_of, settings_with};
+ghost use Rattle.count_office.specs.Serving.{MayServe, MendedIsKept, ServesAtNetwork, ServesOrder, TellsOutcome, gate_at, outcome_by, public_at, public_in};
+ghost use Rattle.count_office.specs.Serving.{public_with, server_settings_of, settings_with};
 
 use crate::codes_file::tell_untaken;
 use crate::gate::{GateFiles, gate_of, read_gate_files};

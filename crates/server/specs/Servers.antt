@@ -1,5 +1,6 @@
 -- A server: which connections it accepts and closes, and what is promised about all of them.
-use Rattle.std.specs.Prelude.{◌≡◌, ◌≢◌, ◌≤◌, ◌<◌, ◌+◌, ◌-◌, ◌^◌, ⊤, Bool, true, false, List, [], ◌++◌, IfSome, None, OnOk, Option, Result, Ok, Err, Some, is_some, length, map, option_map, slice_index_or, ℕ}
+use Rattle.std.specs.Prelude.{◌≡◌, ◌≢◌, ◌≤◌, ◌<◌, ◌+◌, ◌-◌, ◌^◌, ⊤, Bool, true, false}
+use Rattle.std.specs.Prelude.{List, [], ◌++◌, IfSome, None, OnOk, Option, Result, Ok, Err, Some, is_some, length, map, option_map, slice_index_or, ℕ}
 use Rattle.std.specs.List.{FoldsTo, insert, list_all}
 use Rattle.std.specs.Option.{is_none}
 use Rattle.sqlite.specs.Held.{Held}
