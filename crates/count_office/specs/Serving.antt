@@ -15,6 +15,9 @@ use Rattle.screen_page.specs.Page.{page_text as screen_text, policy_text as scre
 use Rattle.register.specs.Machine.{after}
 use Rattle.register.specs.Offices.{OfficeState, empty_office}
 use Rattle.register.specs.declared.command.Request.{Request}
+use Rattle.mending.specs.Accounts.{IsMended}
+use Rattle.mending.specs.Mending.{mended}
+use Rattle.mending.specs.declared.changes.Changes.{Changes}
 use Rattle.tables.specs.Contents.{RestsAt}
 use Rattle.tables.specs.Presence.{IsOurs}
 use Rattle.tables.specs.Reading.{FailsBy, OnlyReads}
@@ -109,15 +112,13 @@ pub record ServesAtNetwork {L S : Type 0} (settings : ServerSettingsEntry) (stre
   pub closed : old.closed ≡ true → new ≡ old
   pub clean : HasCleanDisk (state_of new.held) → HasCleanDisk (state_of old.held)
 
--- the failure to print for a result
-abbrev pub failure_by : ServeError → Failure
-failure_by ended.Memory = Office fault.Memory
-failure_by ended.Network = Output
-failure_by ended.Rounds = Output
-
+-- the failure to print for a result; there is none if a new office took the place of the one that was served
 abbrev pub outcome_by : Result (Unit {0}) ServeError → Result (Unit {0}) Failure
 outcome_by (Ok end) = Ok end
-outcome_by (Err why) = Err (failure_by why)
+outcome_by (Err ended.Moved) = Ok tt
+outcome_by (Err ended.Memory) = Err (Office fault.Memory)
+outcome_by (Err ended.Network) = Err Output
+outcome_by (Err ended.Rounds) = Err Output
 
 -- no connection was accepted or closed on any other port
 abbrev pub IsElsewhereSame : {L : Type 0} → ℕ → (ℕ → NetworkEntry L) → (ℕ → NetworkEntry L) → Type 0
@@ -199,3 +200,16 @@ ServesOrder Tells Quiet status serving codes_at file stream state_of before late
     (IsUnread Tells status serving codes_at before later old new ⊎ IsUnopened Tells status state_of before later old new)
     ⊎ (IsShut Tells status state_of before later old new
     ⊎ IsServed Tells Quiet status (AreSettingsFor serving codes_at file) stream state_of serving.port before later serving.connections old new)
+
+-- ---- an office that takes the place of another
+
+-- Two lists are kept, one after the other. The first is that of the old office, up to the switch: `keeps` of IsServed says what is kept of it. The second is that of the
+-- new office: the list that mending the first one made, followed by what the new office accepts. If the new office was opened in a database that has the state to which
+-- the mended list leads, what is kept of both parts of it is as specified. That the database has this state, in which it was made, is a premise.
+abbrev pub MendedIsKept : {L S : Type 0} → Stream L → (Held S → State) → Type 0
+MendedIsKept {L} {S} stream state_of =
+    (changes : Changes) → IsMended changes (mended changes)
+    → (Tells : List ℕ → ℕ → ℕ → Type 0) (Quiet : Type 0) (status : ℕ) (AreSettings : ServerSettingsEntry → Type 0) (port : ℕ) (before later : ℕ → NetworkEntry L) (most : Option ℕ)
+    (old new : Held S) (served : IsServed Tells Quiet status AreSettings stream state_of port before later most old new)
+    → HasCleanDisk (state_of new) → (db : Database) → RestsAt db (state_of old) → IsLeftAt (mended changes).state db
+    → KeepsExchanges state_of served.settings (mended changes).sent served.at_network.serves.exchanges served.closed (state_of new)

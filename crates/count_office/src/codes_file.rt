@@ -134,7 +134,7 @@ pub fn print_slips<O: Sink, E: Sink>(
 }
 
 /// Writes a text to a new file that only its owner may read. Removes the file if the text can't be written completely.
-fn write_new(rt: &HostRuntime, path: &str, text: &str) -> io::Result<()> {
+pub fn write_new(rt: &HostRuntime, path: &str, text: &str) -> io::Result<()> {
     let mut file = OpenOptions::new()
         .write(true)
         .create_new(true)

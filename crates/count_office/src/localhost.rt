@@ -11,17 +11,21 @@ use crate::LockedDatabase;
 use crate::codes_file::read_codes;
 use crate::file_watch::FileWatch;
 use crate::host::{Host, Opened};
+use crate::moved_note::has_note;
+use crate::notices::tell_serving;
 use crate::order_socket::{OrderSocket, reason_of, reserved_descriptors};
 use crate::served_file::LocalFile;
 use codes::{Codes, CodesError};
 use desk::Failure;
-use mio::net::UnixListener;
+use mio::net::{TcpListener, UnixListener};
 use server::FileNumbers;
 use sockets::{Loopback, Poller, SocketNetwork};
 use std::alloc::{AllocError, Global};
+use std::cell::Cell;
 use std::fs::File;
 use std::io;
 use std::io::{ErrorKind, Write};
+use std::os::fd::AsFd;
 use store::Fault;
 
 /// This machine, the database that is served, the socket next to it, and the standard streams that are held open while serving.
@@ -32,18 +36,68 @@ pub struct Localhost<'a> {
     streams: Option<Vec<File>>,
 }
 
+/// What is left of an office that was served and has moved: whether there was one, and the listeners on its port, which stay open.
+/// So no other program gets the port, and clients that connect meanwhile are served by the new office.
+#[derive(Drop)]
+pub struct Handover {
+    pub has_moved: Cell<bool>,
+    listeners: Cell<Option<Loopback>>,
+}
+
+impl Handover {
+    /// Returns what is left before any office is served.
+    pub fn new() -> Handover {
+        Handover {
+            has_moved: Cell::new(false),
+            listeners: Cell::new(None),
+        }
+    }
+
+    /// Returns the listeners on a port at this machine's loopback addresses: those that were left, or new ones. Keeps them open until
+    /// they are closed here, if the system has room for other descriptors of them.
+    fn listeners_at(&self, rt: &HostRuntime, port: u16) -> io::Result<Loopback> {
+        let clients = match self.listeners.take() {
+            Some(clients) => clients,
+            None => Loopback::bind(rt, port)?,
+        };
+        self.listeners.set(duplicate(&clients).ok());
+        Ok(clients)
+    }
+
+    /// Closes the listeners that were kept open.
+    fn close(&self) {
+        self.listeners.set(None);
+    }
+}
+
+/// Returns another descriptor of a listener.
+fn duplicate_one(listener: &TcpListener) -> io::Result<TcpListener> {
+    Ok(TcpListener::from(listener.as_fd().try_clone_to_owned()?))
+}
+
+/// Returns the same listeners, with other descriptors.
+fn duplicate(clients: &Loopback) -> io::Result<Loopback> {
+    let ipv4 = duplicate_one(&clients.ipv4)?;
+    let ipv6 = match &clients.ipv6 {
+        Some(ipv6) => Some(duplicate_one(ipv6)?),
+        None => None,
+    };
+    Ok(Loopback { ipv4, ipv6 })
+}
+
 /// Listens on a port at this machine's loopback addresses and, if there is one, on the socket for orders next to the database.
 /// Fails if the port is in use at either address. No contract can say which addresses are bound; `tools/try both-addresses`
 /// tests it.
 fn listen<'a>(
-    rt: &'a HostRuntime,
+    place: LockedDatabase<'a>,
     port: u32,
     orders: Option<UnixListener>,
 ) -> io::Result<SocketNetwork<&'a HostRuntime>> {
+    let rt = place.rt;
     let Ok(port) = u16::try_from(port) else {
         return Err(io::Error::from(ErrorKind::InvalidInput));
     };
-    let clients = Loopback::bind(rt, port)?;
+    let clients = place.handover.listeners_at(rt, port)?;
     let poller = Poller::new(rt, rt.alloc(), clients, orders)?;
     Ok(SocketNetwork { poller, clock: rt })
 }
@@ -90,14 +144,14 @@ fn warn_of_weak(rt: &HostRuntime, codes: &Codes) {
     }
 }
 
-/// Opens the network on a port, and looks up the file of the locked database.
+/// Opens the network on a port, and looks up the file of the locked database, and whether another office has taken its place.
 fn open_at<'a>(
     place: LockedDatabase<'a>,
     port: u32,
     orders: Option<UnixListener>,
 ) -> Result<Opened<SocketNetwork<&'a HostRuntime>, LocalFile<'a>>, Failure> {
     let rt = place.rt;
-    let network = match listen(rt, port, orders) {
+    let network = match listen(place, port, orders) {
         Ok(network) => network,
         Err(error) => return Err(listening_failure(&error)),
     };
@@ -107,9 +161,17 @@ fn open_at<'a>(
     let Some(file_watch) = FileWatch::of(rt, place.found, place.lock) else {
         return Err(Failure::FileGone);
     };
+    let Ok(has_moved) = has_note(rt, place.found.database()) else {
+        return Err(Failure::Office(Fault::Store));
+    };
+    let is_moved = Cell::new(has_moved);
     Ok(Opened {
         network,
-        served_file: LocalFile { rt, file_watch },
+        served_file: LocalFile {
+            rt,
+            file_watch,
+            is_moved,
+        },
         file: FileNumbers { device, inode },
     })
 }
@@ -178,6 +240,9 @@ impl<'a> Host for Localhost<'a> {
         let opened = open_at(self.place, port, orders);
         if opened.is_err() {
             self.clear();
+            self.place.handover.close();
+        } else if self.place.is_successor {
+            tell_serving(self.place.rt, self.place.path);
         }
         opened
     }
@@ -187,6 +252,12 @@ impl<'a> Host for Localhost<'a> {
         ensures others { (other : ℕ) → other ≢ port → unknown {L = Socket} ≡ unknown }
     {
         let _ = port;
+        let handover = self.place.handover;
+        if opened.served_file.is_moved.get() {
+            handover.has_moved.set(true);
+        } else {
+            handover.close();
+        }
         drop(opened);
         self.clear();
     }

@@ -4,7 +4,8 @@
 //! order or a script names, and the two standard outputs.
 //!
 //! `main` opens the outputs, [`run`] reads the words, and [`follow_words`] parses them as an order. `perform_with_retries` in
-//! `order_run.rt` attempts the order, repeatedly while another program has locked the file. `attempt` checks what is at the
+//! `order_run.rt` attempts the order, repeatedly while another program has locked the file; `perform_and_follow` does so again for each
+//! new office that takes the place of a served one. `attempt` checks what is at the
 //! path, and `lock_and_perform` locks the file or sends the order to the program that serves it. Under the lock,
 //! `perform_locked` and `open_and_perform` open the database, and [`dispatch_order`] performs the order on it.
 //!
@@ -37,6 +38,7 @@ mod codes_file;
 mod order_files;
 // the path of a database, what exists there, and its lock
 mod file_lock;
+mod moved_note;
 mod notices;
 mod order_run;
 mod path_state;
@@ -66,9 +68,10 @@ use desk::{
 };
 use file_lock::FileLock;
 use host::Host;
-use mends::mend;
+use localhost::Handover;
+use mends::{OldOffice, mend};
 use order_files::{LocalFolder, OrderFiles};
-use order_run::{OrderRun, perform_with_retries};
+use order_run::{OrderRun, perform_and_follow};
 use path_state::PathState;
 use screen::Screen;
 use serving::{Serving, serve};
@@ -82,7 +85,7 @@ use store::Fault;
 use streams::{Counted, Sink};
 
 /// A locked database: its path as given, what exists there, and its file; and those of the order's files that have already been
-/// read, if any.
+/// read, if any. Also whether it is that of a new office, which takes the place of one that was served, and what is left of that.
 #[derive(Clone, Copy)]
 pub struct LockedDatabase<'a> {
     pub rt: &'a HostRuntime,
@@ -90,6 +93,8 @@ pub struct LockedDatabase<'a> {
     pub found: &'a PathState,
     pub lock: &'a FileLock,
     pub brought: &'a Option<OrderFiles>,
+    pub is_successor: bool,
+    pub handover: &'a Handover,
 }
 
 /// Returns the program's words, from DB on.
@@ -186,7 +191,13 @@ fn dispatch_order<H: Host, S: Alter, O: Sink, E: Sink>(
         }
         Order::Copy { path } => copy(rt, conn, path, out, err),
         Order::Journal => journal(rt, conn, out, err),
-        Order::Mend(asked) => mend(rt, conn, asked, out, err),
+        Order::Mend(asked) => {
+            let old = OldOffice {
+                rt,
+                database: place.found.database(),
+            };
+            mend(old, conn, asked, out, err)
+        }
         Order::Codes {
             path,
             clerks,
@@ -278,8 +289,10 @@ fn follow_words<O: Sink, E: Sink>(rt: &HostRuntime, words: &[&str], out: &mut O,
                 path: words.first().copied().unwrap_or(""),
                 words: &*words,
                 order: &order,
+                is_successor: false,
+                handover: &Handover::new(),
             };
-            perform_with_retries(request, out, err)
+            perform_and_follow(request, out, err)
         }
         Err(fault) => tell_words(&fault, out, err),
     }

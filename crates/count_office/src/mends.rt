@@ -1,7 +1,7 @@
 //! Makes a new office from the journal of another, in new files on this machine. The other is an office that an order opened, or one
 //! that is being served.
 
-ghost use Rattle.std.specs.Prelude.{◌-◌, ◌^◌, ◌<◌, IfOk};
+ghost use Rattle.std.specs.Prelude.{◌≡◌, ◌-◌, ◌^◌, ◌<◌, IfOk};
 ghost use Rattle.sqlite.specs.Effect.{Database};
 ghost use Rattle.sqlite.specs.Held.{state};
 ghost use Rattle.sqlite.specs.State.{HasCleanDisk};
@@ -13,17 +13,83 @@ ghost use Rattle.store.specs.Openings.{IsLeftAt};
 ghost use Rattle.office.specs.Answers.{IsReadAt, WhenOpenAt};
 ghost use Rattle.desk.specs.Mends.{IsMendPage};
 ghost use Rattle.desk.specs.Pages.{Tells, outputs_of};
+ghost use Rattle.count_office.specs.Done.{EndsCopy};
 
 use crate::copies::{failure_of, finish, why_not_begun};
 use crate::is_busy;
+use crate::moved_note::{has_note, write_note};
 use crate::new_file::NewFile;
-use desk::{Failure, MendOrder, MendTrial, mend_open, tell_failure};
+use desk::{CopyState, Failure, MendOrder, MendTrial, mend_open, tell_failure};
 use office::Office;
 use sqlite::{Alter, Connection, FileStore, MemStore, Wary};
 use sqlite_disk::Disk;
 use std::alloc::{AllocError, Global};
 use store::Fault;
 use streams::Sink;
+
+/// This machine, and the database of the office from whose journal a new one is made.
+#[derive(Clone, Copy)]
+pub struct OldOffice<'a> {
+    pub rt: &'a HostRuntime,
+    pub database: &'a str,
+}
+
+/// Returns why the new office can't take the place of the old one, if it is to do so: another one has already done that.
+fn why_not_moved(old: OldOffice<'_>, asked: &MendOrder<'_>) -> Option<Failure> {
+    if !asked.takes_over {
+        return None;
+    }
+    match has_note(old.rt, old.database) {
+        Ok(false) => None,
+        Ok(true) => Some(Failure::CopyTaken),
+        Err(_) => Some(Failure::CopyFailed),
+    }
+}
+
+/// Writes the note that the new office has taken the place of the old one, if it is to do so, and returns the status. If the note can't
+/// be written, removes the new office.
+fn move_office<E: Sink>(
+    old: OldOffice<'_>,
+    new_file: &NewFile,
+    asked: &MendOrder<'_>,
+    err: &mut E,
+) -> u8
+    requires { E.failed err.old < 2 ^ 64 - 1 }
+    ensures { EndsCopy E.taken E.failed err.old err.new result }
+{
+    if !asked.takes_over {
+        return 0;
+    }
+    match write_note(old.rt, old.database, new_file.database()) {
+        Ok(()) => 0,
+        Err(_) => {
+            new_file.remove(old.rt);
+            tell_failure(Failure::CopyFailed, err)
+        }
+    }
+}
+
+/// Closes the files of a new office, as those of a copy. With status 0, the new office is whole, and has then taken the place of the
+/// old one if it is to do so.
+fn finish_mended<D: Disk + Drop, E: Sink>(
+    old: OldOffice<'_>,
+    new_file: &NewFile,
+    asked: &MendOrder<'_>,
+    made: Connection<FileStore<D>>,
+    printed: (u8, CopyState),
+    err: &mut E,
+) -> u8
+    requires { printed.0 ≡ 0 → E.failed err.old < 2 ^ 64 - 1 }
+    ensures other { ¬ (printed.0 ≡ 0) → (result ≡ printed.0) × (err.new ≡ err.old) }
+    ensures whole { printed.0 ≡ 0 → EndsCopy E.taken E.failed err.old err.new result }
+{
+    let (status, state) = printed;
+    let closed = finish(old.rt, new_file, made, status, state, err);
+    if closed != 0 {
+        return closed;
+    }
+    move_office(old, new_file, asked, err)
+}
 
 /// Returns two empty databases in memory.
 fn trial_in_memory(alloc: Global) -> Result<MendTrial<MemStore>, AllocError>
@@ -36,7 +102,7 @@ fn trial_in_memory(alloc: Global) -> Result<MendTrial<MemStore>, AllocError>
 
 /// Makes a new office from the journal of an open one, which stays open, in the files that were made for it. Closes those files.
 fn fill_mended<S: Alter, D: Disk + Drop, O: Sink, E: Sink>(
-    rt: &HostRuntime,
+    old: OldOffice<'_>,
     new_file: &NewFile,
     office: &mut Office<S>,
     asked: &MendOrder<'_>,
@@ -51,6 +117,7 @@ fn fill_mended<S: Alter, D: Disk + Drop, O: Sink, E: Sink>(
     ensures stays { WhenOpenAt (state S.Store) office.old office.new (λ s. IsReadAt s office.new.closed (state S.Store office.new.held)) }
     ensures reads { OnlyReads (state S.Store office.old.held) (state S.Store office.new.held) }
 {
+    let rt = old.rt;
     if let Some(failure) = why_not_begun(rt, new_file) {
         return tell_failure(failure, err);
     }
@@ -66,12 +133,13 @@ fn fill_mended<S: Alter, D: Disk + Drop, O: Sink, E: Sink>(
         journal: _,
         mended: _,
     } = tried;
-    finish(rt, new_file, made, status, state, err)
+    finish_mended(old, new_file, asked, made, (status, state), err)
 }
 
 /// Makes a new office from the journal of an open one, at a path where nothing exists yet. The open one stays open and is only read.
+/// With status 0, the new office has taken the place of the open one if the order asks for it.
 pub fn mend_served<S: Alter, O: Sink, E: Sink>(
-    rt: &HostRuntime,
+    old: OldOffice<'_>,
     office: &mut Office<S>,
     asked: &MendOrder<'_>,
     path: &str,
@@ -85,12 +153,16 @@ pub fn mend_served<S: Alter, O: Sink, E: Sink>(
     ensures stays { WhenOpenAt (state S.Store) office.old office.new (λ s. IsReadAt s office.new.closed (state S.Store office.new.held)) }
     ensures reads { OnlyReads (state S.Store office.old.held) (state S.Store office.new.held) }
 {
+    let rt = old.rt;
+    if let Some(failure) = why_not_moved(old, asked) {
+        return tell_failure(failure, err);
+    }
     let new_file = match NewFile::make(rt, path) {
         Ok(new_file) => new_file,
         Err(failure) => return tell_failure(failure, err),
     };
     match Connection::open_from(rt, path, false, Wary) {
-        Ok(made) => fill_mended(rt, &new_file, office, asked, made, out, err),
+        Ok(made) => fill_mended(old, &new_file, office, asked, made, out, err),
         Err((error, left)) => {
             if !is_busy(&error) {
                 new_file.clear(rt);
@@ -103,7 +175,7 @@ pub fn mend_served<S: Alter, O: Sink, E: Sink>(
 
 /// Makes a new office from the journal of the office in a connection's database, which is only read.
 pub fn mend<S: Alter, O: Sink, E: Sink>(
-    rt: &HostRuntime,
+    old: OldOffice<'_>,
     conn: Connection<S>,
     asked: &MendOrder<'_>,
     out: &mut O,
@@ -115,9 +187,9 @@ pub fn mend<S: Alter, O: Sink, E: Sink>(
         (λ _ page. HasCleanDisk (state S.Store result.1) → (db : Database) → RestsAt db (state S.Store conn) → (s : OfficeState) → IsLeftAt s db → IsMendPage s asked.now page) }
     ensures reads { OnlyReads (state S.Store conn) (state S.Store result.1) }
 {
-    match Office::open_from(rt.alloc(), conn) {
+    match Office::open_from(old.rt.alloc(), conn) {
         Ok(mut office) => {
-            let status = mend_served(rt, &mut office, asked, asked.path, out, err);
+            let status = mend_served(old, &mut office, asked, asked.path, out, err);
             (status, office.into_connection())
         }
         Err((fault, conn)) => (tell_failure(Failure::Office(fault), err), conn),

@@ -1,7 +1,7 @@
 //! The file of a copy or of a mended office. It is created only if nothing has that name yet, and removed again if none results.
 
 use crate::file_lock::FileLock;
-use crate::path_state::{LOG_ENDINGS, MIN_OFFICE, RIGHTS, is_no_file, length_at};
+use crate::path_state::{ENDINGS, MIN_OFFICE, RIGHTS, is_no_file, length_at};
 use desk::Failure;
 use std::fs;
 use std::io::{self, ErrorKind};
@@ -25,12 +25,12 @@ fn failure_of(error: &io::Error) -> Failure {
     }
 }
 
-/// Checks that nothing, not even a link, has the name of a log for the database at a path.
-fn has_no_log(rt: &HostRuntime, path: &str, ending: &str) -> Result<(), Failure> {
-    let Ok(log) = format!(in rt.alloc(); "{path}{ending}") else {
+/// Checks that nothing, not even a link, has the name of a database followed by an ending.
+fn has_none(rt: &HostRuntime, path: &str, ending: &str) -> Result<(), Failure> {
+    let Ok(name) = format!(in rt.alloc(); "{path}{ending}") else {
         return Err(Failure::Office(Fault::Memory));
     };
-    match fs::symlink_metadata(rt, log.as_str()) {
+    match fs::symlink_metadata(rt, name.as_str()) {
         Ok(_) => Err(Failure::CopyTaken),
         Err(error) if error.kind() == ErrorKind::NotFound => Ok(()),
         Err(error) => Err(failure_of(&error)),
@@ -40,13 +40,13 @@ fn has_no_log(rt: &HostRuntime, path: &str, ending: &str) -> Result<(), Failure>
 impl NewFile {
     /// Creates the file of a copy at a path where nothing exists, not even a link, with permissions for its owner only. If
     /// something already exists (`CopyTaken`), or the file can't be created, nothing is left behind. Refuses a name that
-    /// `sqlite` treats as a log, or as something other than a file.
+    /// `sqlite` treats as a log, or as something other than a file, and the name of a note that an office has moved.
     pub fn make(rt: &HostRuntime, path: &str) -> Result<NewFile, Failure> {
-        if is_no_file(path) || LOG_ENDINGS.iter().any(|ending| path.ends_with(*ending)) {
+        if is_no_file(path) || ENDINGS.iter().any(|ending| path.ends_with(*ending)) {
             return Err(Failure::CopyFailed);
         }
-        for ending in LOG_ENDINGS {
-            has_no_log(rt, path, ending)?;
+        for ending in ENDINGS {
+            has_none(rt, path, ending)?;
         }
         let (Ok(database), Ok(log)) = (
             String::from_str(rt.alloc(), path),
@@ -60,6 +60,11 @@ impl NewFile {
             log,
             lock,
         })
+    }
+
+    /// Returns the path of the file.
+    pub fn database(&self) -> &str {
+        self.database.as_str()
     }
 
     /// Returns whether the two files together are too short for an office, as they are when `sqlite` has just opened them. If

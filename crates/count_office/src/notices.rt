@@ -1,6 +1,7 @@
 //! Lines on the error output for the person who gave an order, in addition to what the order prints. The order is performed
 //! even if these lines can't be written.
 
+use crate::moved_note::moved_to;
 use std::fs;
 use std::io::{IsTerminal, Write};
 use std::os::unix::fs::MetadataExt;
@@ -25,6 +26,23 @@ impl LockHolder {
             LockHolder::Program => "another program has it open",
         }
     }
+}
+
+/// Prints which office took the place of the one in the database at a path, if a note says so.
+pub fn tell_if_moved(rt: &HostRuntime, path: &str) {
+    let Ok(database) = fs::canonicalize(rt, path) else {
+        return;
+    };
+    if let Ok(Some(new)) = moved_to(rt, database.as_str()) {
+        let mut stderr = rt.stderr();
+        let _ = writeln!(stderr, "note: {new} took the place of this office");
+    }
+}
+
+/// Prints which office is served now, after the one that was served has moved.
+pub fn tell_serving(rt: &HostRuntime, path: &str) {
+    let mut stderr = rt.stderr();
+    let _ = writeln!(stderr, "serving {path} now");
 }
 
 /// Prints what an order is waiting for, if the error output is a terminal.

@@ -4,9 +4,10 @@
 ghost use Rattle.std.specs.Prelude.{◌≡◌, ◌-◌, ◌^◌, ◌<◌, OnErr, Some};
 
 use crate::file_lock::FileLock;
-use crate::localhost::Localhost;
+use crate::localhost::{Handover, Localhost};
+use crate::moved_note::moved_to;
 use crate::notices::{
-    LockHolder, warn_foreign_log, warn_if_open_to_others, warn_waited, warn_waiting,
+    LockHolder, tell_if_moved, warn_foreign_log, warn_if_open_to_others, warn_waited, warn_waiting,
 };
 use crate::order_client::{OrderReply, Sent, print_reply, send_order};
 use crate::order_files::{OrderFiles, read_order_and_files};
@@ -30,13 +31,16 @@ const PAUSE: u64 = 10;
 /// The number of pauses after which the program tells a person at a terminal what the order is waiting for.
 const PAUSES_UNSEEN: u32 = 50;
 
-/// An order, its words starting with DB, and the path of its database.
+/// An order, its words starting with DB, and the path of its database; whether that is the database of a new office that takes the
+/// place of one that was served, and what is left of that one.
 #[derive(Clone, Copy)]
 pub struct OrderRun<'a> {
     pub rt: &'a HostRuntime,
     pub path: &'a str,
     pub words: &'a [&'a str],
     pub order: &'a Order<'a>,
+    pub is_successor: bool,
+    pub handover: &'a Handover,
 }
 
 /// Opens the locked database at a path, performs an order on it, and closes it. If the order fails, nothing is left that didn't
@@ -193,6 +197,8 @@ fn perform_locked<O: Sink, E: Sink>(
         found,
         lock,
         brought,
+        is_successor: request.is_successor,
+        handover: request.handover,
     };
     open_and_perform(place, request.order, out, err)
 }
@@ -254,12 +260,13 @@ fn attempt<O: Sink, E: Sink>(
 /// Performs an order on the database at a path, and returns its status. While another program has locked the file and doesn't
 /// serve it, the order waits, for at most ten seconds. After that, the order fails with fault 102, and the program prints what
 /// has locked the file.
-pub fn perform_with_retries<O: Sink, E: Sink>(request: OrderRun<'_>, out: &mut O, err: &mut E) -> u8
+fn perform_with_retries<O: Sink, E: Sink>(request: OrderRun<'_>, out: &mut O, err: &mut E) -> u8
     requires out { O.failed out.old < 2 ^ 64 - 1 }
     requires err { E.failed err.old < 2 ^ 64 - 1 }
 {
     let OrderRun { rt, path, .. } = request;
     warn_if_open_to_others(rt, path);
+    tell_if_moved(rt, path);
     let mut brought = None;
     let mut holder = LockHolder::Order;
     for pauses in 0..=PAUSES {
@@ -274,5 +281,43 @@ pub fn perform_with_retries<O: Sink, E: Sink>(request: OrderRun<'_>, out: &mut O
     }
     let status = tell_failure(Failure::Office(Fault::Store), err);
     warn_waited(rt, path, holder);
+    status
+}
+
+/// Returns the path of the office that took the place of the one at a path.
+fn successor_of(rt: &HostRuntime, path: &str) -> io::Result<String> {
+    let database = fs::canonicalize(rt, path)?;
+    match moved_to(rt, database.as_str())? {
+        Some(new) => Ok(new),
+        None => Err(ErrorKind::NotFound.into()),
+    }
+}
+
+/// Performs an order on the database at a path, and returns its status. If the order serves an office and a new one takes its place,
+/// serves that one, and so on; the status is that of the last one.
+pub fn perform_and_follow<O: Sink, E: Sink>(request: OrderRun<'_>, out: &mut O, err: &mut E) -> u8
+    requires out { O.failed out.old < 2 ^ 64 - 1 }
+    requires err { E.failed err.old < 2 ^ 64 - 1 }
+{
+    let OrderRun { rt, handover, .. } = request;
+    let mut status = perform_with_retries(request, out, err);
+    let Ok(mut path) = String::from_str(rt.alloc(), request.path) else {
+        return tell_failure(Failure::Office(Fault::Memory), err);
+    };
+    for _ in 0..u64::MAX {
+        if !handover.has_moved.replace(false) {
+            return status;
+        }
+        let Ok(new) = successor_of(rt, path.as_str()) else {
+            return tell_failure(Failure::FileGone, err);
+        };
+        let next = OrderRun {
+            path: new.as_str(),
+            is_successor: true,
+            ..request
+        };
+        status = perform_with_retries(next, out, err);
+        path = new;
+    }
     status
 }

@@ -6,6 +6,7 @@
 ghost use Rattle.std.specs.Prelude.{◌≡◌, ◌≢◌, ◌≤◌, None, IfSome};
 
 use crate::file_lock::FileLock;
+use crate::moved_note::{MOVED, has_note};
 use std::alloc::{AllocError, Global};
 use std::fs;
 use std::io::{self, ErrorKind};
@@ -35,9 +36,9 @@ const WRITING_BY_OTHERS: u32 = 0o022;
 /// The user id of root.
 const ROOT: u32 = 0;
 
-/// The suffixes that are appended to a database's name to form the names of its logs: the log of `sqlite`, and the journal that
-/// other programs using SQLite play back into a database.
-pub const LOG_ENDINGS: [&str; 2] = [LOG, JOURNAL];
+/// The suffixes that are appended to a database's name to form the names of other files. These are the log of `sqlite`, the journal
+/// that other programs using SQLite play back into a database, and the note that another office took its place.
+pub const ENDINGS: [&str; 3] = [LOG, JOURNAL, MOVED];
 
 const LOG: &str = "-wal";
 
@@ -81,7 +82,7 @@ pub enum PathKind {
     Free,
     /// A file that is treated as empty, and no log except one that `sqlite` has just begun. They can't contain an office.
     Empty,
-    /// No file, or an empty one; and a log next to it that may contain something.
+    /// No file, or an empty one; and next to it a log that may contain something, or a note that another office took its place.
     LogAlone,
     /// No file, or an empty one; and whatever has the log's name can't be examined.
     LogUnreadable,
@@ -151,6 +152,11 @@ impl PathState {
             &log_length,
             &log_length_at(rt, journal.as_str()),
         );
+        let kind = match kind {
+            PathKind::Free | PathKind::Empty
+                if !matches!(has_note(rt, database.as_str()), Ok(false)) => { PathKind::LogAlone }
+            kind => kind,
+        };
         Ok(PathState {
             database,
             log,

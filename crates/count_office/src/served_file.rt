@@ -7,21 +7,23 @@ ghost use Rattle.count_office.specs.CopyPaths.{copy_path, folder_of};
 
 use crate::copies::copy_served;
 use crate::file_watch::FileWatch;
-use crate::mends::mend_served;
+use crate::mends::{OldOffice, mend_served};
 use desk::{Failure, MendOrder, journal_open, tell_failure};
 use office::Office;
 use server::{Destination, ServedFile};
 use sqlite::{Alter, Connection};
 use std::alloc::{AllocError, Global};
+use std::cell::Cell;
 use std::path::{Path, PathBuf};
 use store::Fault;
 use streams::Sink;
 
-/// This machine, and the files of the office that is being served.
+/// This machine, the files of the office that is being served, and whether a new office has taken its place.
 #[derive(Drop)]
 pub struct LocalFile<'a> {
     pub rt: &'a HostRuntime,
     pub file_watch: FileWatch<'a>,
+    pub is_moved: Cell<bool>,
 }
 
 /// Returns the folder of a file.
@@ -47,7 +49,12 @@ impl ServedFile for LocalFile<'_> {
     ghost whole = { λ _. None };
 
     fn is_whole(&self) -> bool {
-        self.file_watch.is_whole(self.rt)
+        !self.is_moved.get() && self.file_watch.is_whole(self.rt)
+    }
+
+    // Only this program can have moved the office since it opened it, because it has locked it. So nothing is looked up.
+    fn has_moved(&self) -> bool {
+        self.is_moved.get()
     }
 
     fn copy<S: Alter, O: Sink, E: Sink>(
@@ -87,7 +94,17 @@ impl ServedFile for LocalFile<'_> {
         err: &mut E,
     ) -> u8 {
         match path_of_copy(self.rt.alloc(), self.file_watch.database(), to) {
-            Ok(path) => mend_served(self.rt, office, asked, path.as_str(), out, err),
+            Ok(path) => {
+                let old = OldOffice {
+                    rt: self.rt,
+                    database: self.file_watch.database(),
+                };
+                let status = mend_served(old, office, asked, path.as_str(), out, err);
+                if status == 0 && asked.takes_over {
+                    self.is_moved.set(true);
+                }
+                status
+            }
             Err(AllocError) => tell_failure(Failure::Office(Fault::Memory), err),
         }
     }

@@ -5,7 +5,8 @@ ghost use Rattle.sqlite.specs.Held.{state};
 ghost use Rattle.desk.specs.Pages.{IsErrorTold};
 ghost use Rattle.connections.specs.Streams.{stream_of};
 ghost use Rattle.wire.specs.Origins.{origin_setting};
-ghost use Rattle.count_office.specs.Serving.{MayServe, ServesAtNetwork, ServesOrder, TellsOutcome, failure_by, gate_at, public_at, public_in, public_with, server_settings_of, settings_with};
+ghost use Rattle.count_office.specs.Serving.{MayServe, MendedIsKept, ServesAtNetwork, ServesOrder, TellsOutcome, gate_at, outcome_by, public_at, public_in};
+ghost use Rattle.count_office.specs.Serving.{public_with, server_settings_of, settings_with};
 
 use crate::codes_file::tell_untaken;
 use crate::gate::{GateFiles, gate_of, read_gate_files};
@@ -42,13 +43,14 @@ pub struct ServeSettings<'a> {
     pub file: FileNumbers,
 }
 
-/// Returns the failure to print if serving ended early.
-fn failure_of(ended: ServeError) -> Failure
-    ensures { result ≡ failure_by ended }
+/// Returns the failure to print if serving ended early. There is none if a new office took the place of the one that was served.
+fn outcome_of(ended: Result<(), ServeError>) -> Result<(), Failure>
+    ensures { result ≡ outcome_by ended }
 {
     match ended {
-        ServeError::Memory => Failure::Office(Fault::Memory),
-        ServeError::Network | ServeError::Rounds => Failure::Output,
+        Ok(()) | Err(ServeError::Moved) => Ok(()),
+        Err(ServeError::Memory) => Err(Failure::Office(Fault::Memory)),
+        Err(ServeError::Network | ServeError::Rounds) => Err(Failure::Output),
     }
 }
 
@@ -134,10 +136,7 @@ fn serve_at<H: Host, S: Alter>(
             file,
         },
     );
-    match ended {
-        Ok(()) => Ok(()),
-        Err(ended) => Err(failure_of(ended)),
-    }
+    outcome_of(ended)
 }
 
 /// Prints the failure, if there is one, and returns the status.
@@ -180,3 +179,10 @@ pub fn serve<H: Host, S: Alter, E: Sink>(
     let status = tell_outcome(outcome, err);
     (status, office.into_connection())
 }
+
+/// The law of an office that takes the place of another. What the old one keeps is its list of requests up to the switch, as [`serve`]
+/// says of the old one. What the new one keeps is the list that `mend` made of the old one's, followed by what the new one accepts, if it
+/// opens at the state that `mend` made. No contract says that of the file in which it was made.
+pub fn mended_list_is_kept<D: Network, S: Alter>()
+    ensures { MendedIsKept (stream_of D.Stream.held D.Stream.taken D.Stream.failed) (state S.Store) }
+{}

@@ -15,7 +15,7 @@ use Rattle.desk.specs.declared.words.WordsFault.TheVariants as words_fault
 use Rattle.desk.specs.declared.order_entry.Kind.{Kind}
 use Rattle.desk.specs.declared.order_entry.Kind.TheVariants as kind
 use Rattle.desk.specs.Numbers.{number_in}
-use Rattle.desk.specs.Orders.{Meant, OfWords, OrderWords, WordValue, WordEntry, asked_by, by_office, no_digest, no_form, no_origin, no_verdict, orders, public_of, send, title_alone}
+use Rattle.desk.specs.Orders.{Meant, OfWords, OrderWords, WordValue, WordEntry, asked_by, by_office, mend, no_digest, no_form, no_origin, no_verdict, orders, public_of, send, title_alone}
 use Rattle.desk.specs.Verdicts.{Judgement, judgement_in}
 use Rattle.register.specs.declared.command.Command.{Command}
 use Rattle.origins.specs.Origins.{origin_in}
@@ -194,6 +194,10 @@ meaning (Some found) = meaning_of found.0 found.1
 -- the office sends a command under the matched id
 abbrev pub sent : List Row → Command → Meant
 sent rows command = send (by_office (text_at (codes "id") rows) (asked_by command))
+
+-- a new office is made from the journal, at the matched path and with the matched names and orders; and whether it takes over
+abbrev pub mended_at : List Row → Bool → Meant
+mended_at rows takes_over = mend takes_over (text_at (codes "NEW") rows) (texts_at (codes "without") rows) (texts_at (codes "with") rows)
 
 -- whether an order has the given name
 abbrev pub is_order_name : Text → Bool

@@ -8,11 +8,11 @@
 
 ghost use Rattle.std.specs.Prelude.{◌≡◌, ◌⊎◌, false, Err, None, Some, codes, drop, map, take, IfErr, IfOk, IfSome, option_map, string_bytes};
 ghost use Rattle.clap.specs.Words.{all_of, first_of, found_of, rows_of, subcommand_rows_of};
-ghost use Rattle.desk.specs.Orders.{ask, form_meant, form_of_ward, mend, no_digest, no_form, no_origin, no_verdict, orders, print, title_alone, told, told_errand, told_text, ward_form_in, words_of};
+ghost use Rattle.desk.specs.Orders.{ask, form_meant, form_of_ward, no_digest, no_form, no_origin, no_verdict, orders, print, title_alone, told, told_errand, told_text, ward_form_in, words_of};
 ghost use Rattle.desk.specs.Numbers.{number_in as number_of};
 ghost use Rattle.keyfile.specs.Digests.{digest_bytes};
 ghost use Rattle.origins.specs.Origins.{origin_text};
-ghost use Rattle.desk.specs.Words.{digest_at, is_command_name, is_order_name, is_question_name, meaning, meaning_of, names_order, number_at, number_found, origin_at, sent, text_at};
+ghost use Rattle.desk.specs.Words.{digest_at, is_command_name, is_order_name, is_question_name, meaning, meaning_of, mended_at, names_order, number_at, number_found, origin_at, sent, text_at};
 ghost use Rattle.desk.specs.Words.{flag_at, public_at, texts_at};
 
 use crate::order_entry::{
@@ -444,7 +444,7 @@ fn mending<'a>(
     matches: &ArgMatches<'a>,
     takes_over: bool,
 ) -> Result<Order<'a>, NoOrder>
-    ensures ok { IfOk result (λ o. told o ≡ mend takes_over (text_at (codes "NEW") (rows_of (found_of matches.now))) (texts_at (codes "without") (rows_of (found_of matches.now))) (texts_at (codes "with") (rows_of (found_of matches.now)))) }
+    ensures ok { IfOk result (λ o. told o ≡ mended_at (rows_of (found_of matches.now)) takes_over) }
     ensures err { IfErr result (λ why. why ≡ NoOrder.Memory) }
 {
     Ok(Order::Mend(MendOrder {

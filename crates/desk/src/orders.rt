@@ -173,8 +173,8 @@ impl<'a> Task<'a> {
     }
 }
 
-/// An order to mend: the path of the new office, the names of the orders to leave out, the orders that replace others, each as a
-/// line of a script, and whether the new office then takes the place of the old one.
+/// An order to mend: the path of the new office, the names of the orders to leave out, and the orders that replace others, each as a
+/// line of a script. Also whether the new office then takes the place of the old one.
 #[derive(Debug, Drop)]
 pub struct MendOrder<'a> {
     pub path: &'a str,

@@ -1,9 +1,9 @@
 -- The server, from one time to a later one.
 use Rattle.std.proofs.Common.{◌≡◌, ◌≤◌, ◌<◌, ◌+◌, ◌-◌, ◌^◌, ◌∙◌, ◌⊎◌, ◌∷◌, ◌++◌, ℕ, add-zero, true, List, [], None, Option, Some, ap}
 use Rattle.std.proofs.Common.{append-nil, append_assoc, arith, get_or, inl, inr, insert, length, length-set, map, option_map, refl, remove, set, subst, suc, sym, zero}
-use Rattle.std.specs.Prelude.{Bool, Err, IfOk, IfSome, Ok, OnOk, Result, is_some, unwrap_or}
+use Rattle.std.specs.Prelude.{◌≢◌, Bool, Err, IfOk, IfSome, Ok, OnOk, Result, is_some, unwrap_or}
 use Rattle.std.specs.Result.{IsErr}
-use Rattle.std.specs.List.{All, FoldsTo}
+use Rattle.std.specs.List.{All, FoldsTo, list_all}
 use Rattle.std.specs.Vec.{with_item}
 use Rattle.std.proofs.lemmas.List.{get_or-set_same, get_or_default, get_or_read, map-append, map_push}
 use Rattle.std.proofs.lemmas.List.Edits.{length-insert}
@@ -30,7 +30,7 @@ use Rattle.connections.specs.declared.connection_table.ConnectionTable.{Connecti
 use Rattle.connections.proofs.StreamLemmas.{heard_more}
 use Rattle.server.specs.ServedConnections.{AreOpen, ServedConnection, HasExchangeFor, WasClosed, IsGathered, IsOpenUnder, IsSound, IsOpenConnection, HadExchange, exchanges_of}
 use Rattle.connections.specs.Closing.{AreClosedByRule, EndsFor, IsClosed, IsClosedByRule, IsClosedForBytes, MayBeClosed, timeout_rule, timeout}
-use Rattle.server.specs.Servers.{GoesOn, GoesOnServing, RemovesMore, IsCalled, IsNumbered, IsSettled, IsUnfailed, AcceptsMore, ServesConnections, ServesFrom}
+use Rattle.server.specs.Servers.{GoesOn, GoesOnServing, RemovesMore, IsCalled, IsNumbered, IsSettled, IsUnfailed, AcceptsMore, OnMoved, ServesConnections, ServesFrom, is_idle}
 use Rattle.server.specs.declared.serve_error.ServeError.{ServeError}
 use Rattle.server.specs.declared.serve_error.ServeError.TheVariants as ended
 use Rattle.server.specs.Reads.{ServedOffice, MemoryEntry, served_office, with_none_kept}
@@ -551,7 +551,9 @@ module _ {L : Type 0} (settings : ServerSettingsEntry) (stream : Stream L) where
         back = with_none before;
         each = refl;
         none = tt;
+        idle = tt;
       };
+      moved = tt;
       kept = (with_none_kept at).kept;
       each = refl;
       keeps = λ clean is_open earlier rests. kept_of settings state_of earlier [] at (with_none_kept at) refl clean is_open rests;
@@ -588,9 +590,9 @@ module _ {L : Type 0} (settings : ServerSettingsEntry) (stream : Stream L) where
         (behind : ServedOffice S) (result : Result (Unit {0}) ServeError)
         → kept ≡ (with_none_kept at).kept → ServesFrom settings stream state_of before end old went (served_office at kept) behind → AreClosedByRule IsClosed end later went new
         → old.clients.items ≡ [] → old.came ≡ 0 → old.counted ≡ 0 → new.clients.items ≡ [] → OnOk result (went.clients.items ≡ []) → IfSome most (λ n. new.counted ≤ n)
-        → OnOk result (IfSome most (λ n. new.counted ≡ n))
+        → OnOk result (IfSome most (λ n. new.counted ≡ n)) → OnMoved result (list_all is_idle went.clients.items ≡ true) → OnMoved result (settings.whole ≢ Some true)
         → ServesConnections settings stream state_of before later most at behind.office result
-    hall_serves before end later most old went new at kept behind result unkept on closing none first uncounted empty nobody few all =
+    hall_serves before end later most old went new at kept behind result unkept on closing none first uncounted empty nobody few all idle moved =
         let (shown, it, trace) = on None in
         let goes = goes_then it.exchanges [] before end later old went new it.goes_on (goes_without IsClosed closed_outs end later went new closing) in
         let each = subst (λ (k : MemoryEntry). FoldsTo (ServesExchange settings state_of) (served_office at k) it.exchanges behind) unkept it.each in
@@ -619,7 +621,9 @@ module _ {L : Type 0} (settings : ServerSettingsEntry) (stream : Stream L) where
             back = closing.back;
             each = subst (λ (cs : List (Client L)). FoldsTo IsClosed went.clients.items closing.gone cs) empty closing.each;
             none = nobody;
+            idle = idle;
           };
+          moved = moved;
           kept = behind.kept;
           each = each;
           keeps = λ clean is_open earlier rests. kept_of settings state_of earlier it.exchanges at behind each clean is_open rests;

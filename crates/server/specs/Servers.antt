@@ -1,6 +1,8 @@
 -- A server: which connections it accepts and closes, and what is promised about all of them.
-use Rattle.std.specs.Prelude.{◌≡◌, ◌≤◌, ◌<◌, ◌+◌, ◌-◌, ◌^◌, Bool, true, false, List, [], ◌++◌, IfSome, None, OnOk, Option, Result, Ok, Err, Some, is_some, length, map, option_map, slice_index_or, ℕ}
-use Rattle.std.specs.List.{FoldsTo, insert}
+use Rattle.std.specs.Prelude.{◌≡◌, ◌≢◌, ◌≤◌, ◌<◌, ◌+◌, ◌-◌, ◌^◌, ⊤, Bool, true, false}
+use Rattle.std.specs.Prelude.{List, [], ◌++◌, IfSome, None, OnOk, Option, Result, Ok, Err, Some, is_some, length, map, option_map, slice_index_or, ℕ}
+use Rattle.std.specs.List.{FoldsTo, insert, list_all}
+use Rattle.std.specs.Option.{is_none}
 use Rattle.sqlite.specs.Held.{Held}
 use Rattle.sqlite.specs.State.{HasCleanDisk, State}
 use Rattle.register.specs.Machine.{after}
@@ -15,6 +17,9 @@ use Rattle.connections.specs.Traces.{Trace, ResponseAt}
 use Rattle.connections.specs.Streams.{Stream, failed_after, one_more}
 use Rattle.connections.specs.Tables.{NetworkEntry, clients_among, with_removed}
 use Rattle.connections.specs.declared.client.Client.{Client}
+use Rattle.connections.specs.declared.client.Listener.{Listener}
+use Rattle.connections.specs.declared.client.Listener.TheVariants.{Clients, Orders}
+use Rattle.connections.specs.declared.client.PendingResponse.{PendingResponse}
 use Rattle.connections.specs.declared.client.Accepted.{Accepted}
 use Rattle.connections.specs.declared.removed.Removed.{Removed}
 use Rattle.connections.specs.declared.removed.CloseReason.{CloseReason}
@@ -77,8 +82,22 @@ abbrev pub IsSettled : {L : Type 0} → Option CloseReason → ℕ → Client L 
 IsSettled (Some why) place client before later old new = (later ≡ with_removed before (removed_of client why)) × (new ≡ old)
 IsSettled {L} None place client before later old new = (back : ConnectionTable L) × IsBackInTable place client old back × AreClosedByRule IsClosedForBytes before later back new
 
+-- the connection is a client's, and has no response that is still to be sent
+abbrev pub is_idle_at : Listener → Option PendingResponse → Bool
+is_idle_at Clients answer = is_none answer
+is_idle_at Orders answer = false
+
+abbrev pub is_idle : {L : Type 0} → Client L → Bool
+is_idle client = is_idle_at client.listener client.answer
+
+-- the proposition, if serving ended because a new office took the place of the one that is served
+abbrev pub OnMoved : Result (Unit {0}) ServeError → Type 0 → Type 0
+OnMoved (Err ended.Moved) P = P
+OnMoved other P = ⊤
+
 -- How all connections were accepted, serviced and closed, step by step. At first no connection is open, and the clock hasn't been read yet. The connections that are
--- still open when serving ends are then closed, one by one. If serving ends without a failure, there are none.
+-- still open when serving ends are then closed, one by one. If serving ends without a failure, there are none. If it ends because a new office took the place of the
+-- one that is served, none of them is for an order, and none has a response that is still to be sent.
 pub record ClosesConnections {L : Type 0} (gated : Bool) (stream : Stream L) (turns : List ResponseAt) (before later : NetworkEntry L) (result : Result (Unit {0}) ServeError) : Type 0 where
   pub end : NetworkEntry L
   pub shown : Option ℕ
@@ -88,6 +107,7 @@ pub record ClosesConnections {L : Type 0} (gated : Bool) (stream : Stream L) (tu
   pub back : later ≡ with_all_removed end closed
   pub each : FoldsTo IsClosed rest closed []
   pub none : OnOk result (rest ≡ [])
+  pub idle : OnMoved result (list_all is_idle rest ≡ true)
 
 -- calls to the network, of which at most the last one failed; and no wait succeeded
 abbrev pub IsCalled : {A L : Type 0} → Result A Broken → NetworkEntry L → NetworkEntry L → Type 0
@@ -104,16 +124,18 @@ IsRound (Ok false) before later = (later.failed ≡ before.failed) × (later.wai
 IsRound (Err broken) before later = (later.failed ≡ one_more before.failed) × (later.waits ≡ before.waits)
 
 -- Why serving ended early: a single call to the network failed; or the table couldn't be allocated; or the number of rounds reached its limit. Otherwise no call
--- failed.
+-- failed; that includes the case that a new office took the place of the one that is served.
 abbrev pub IsEndedBy : {L : Type 0} → NetworkEntry L → NetworkEntry L → Result (Unit {0}) ServeError → Type 0
 IsEndedBy before later (Ok end) = later.failed ≡ before.failed
 IsEndedBy before later (Err ended.Network) = later.failed ≡ one_more before.failed
 IsEndedBy before later (Err ended.Memory) = (later.failed ≡ before.failed) × (later.came ≡ before.came)
+IsEndedBy before later (Err ended.Moved) = later.failed ≡ before.failed
 IsEndedBy before later (Err ended.Rounds) = (later.failed ≡ before.failed) × (later.waits ≡ option_map (λ n. n + (2 ^ 64 - 1)) before.waits)
 
 -- Connections from clients and for orders were accepted: no more clients than requested, and exactly as many if serving ended without a failure. What happened to each
 -- connection is as specified, and each was handed back, exactly once, with its stream in its final state. Their requests were processed one at a time, each in the
--- office that the previous ones left. At first the cache was empty, and no wrong code had been sent. What is kept of the requests is as specified, too.
+-- office that the previous ones left. At first the cache was empty, and no wrong code had been sent. What is kept of the requests is as specified, too. Serving doesn't
+-- end because a new office took the place of a file that is permanently known to be whole.
 pub record ServesConnections {L S : Type 0} (settings : ServerSettingsEntry) (stream : Stream L) (state_of : Held S → State) (before later : NetworkEntry L) (most : Option ℕ)
     (old new : OfficeValue S) (result : Result (Unit {0}) ServeError) : Type 0 where
   pub all_connections : List (ServedConnection L)
@@ -127,6 +149,7 @@ pub record ServesConnections {L S : Type 0} (settings : ServerSettingsEntry) (st
   pub left : (number : ℕ) (connection : ServedConnection L) → number < length all_connections → WasClosed stream gone exchanges number (slice_index_or all_connections number connection)
   pub once : length gone ≡ length all_connections
   pub closes : ClosesConnections (is_some settings.clients.gate) stream (map response_at exchanges) before later result
+  pub moved : OnMoved result (settings.whole ≢ Some true)
   pub kept : MemoryEntry
   pub each : FoldsTo (ServesExchange settings state_of) (with_none_kept old) exchanges (served_office new kept)
   pub keeps : HasCleanDisk (state_of new.held) → old.closed ≡ false → (earlier : List Request) → IsAt (after empty_office earlier) (state_of old.held)

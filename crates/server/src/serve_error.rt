@@ -9,4 +9,6 @@ pub enum ServeError {
     Memory,
     /// The number of rounds reached the maximum of a 64-bit counter.
     Rounds,
+    /// A new office took the place of the one that is served, and the responses of the old one have been sent.
+    Moved,
 }

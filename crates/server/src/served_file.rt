@@ -1,7 +1,7 @@
 //! The file of the office that is served, and what else an order needs: a new file for a copy or for another office, and empty
 //! databases for a trial run of a journal.
 
-ghost use Rattle.std.specs.Prelude.{◌≡◌, ◌-◌, ◌^◌, ◌<◌, Bool, IfSome, Option, true};
+ghost use Rattle.std.specs.Prelude.{◌≡◌, ◌≢◌, ◌-◌, ◌^◌, ◌<◌, Bool, IfSome, Option, Some, true};
 ghost use Rattle.sqlite.specs.Held.{state};
 ghost use Rattle.sqlite.specs.State.{HasCleanDisk};
 ghost use Rattle.office.specs.Answers.{IsReadAt, WhenOpenAt};
@@ -34,6 +34,10 @@ pub trait ServedFile {
     fn is_whole(&self) -> bool
         ensures { IfSome (whole self.now) (λ known. result ≡ known) };
 
+    /// Returns whether a new office has taken the place of this one. If so, the file isn't whole.
+    fn has_moved(&self) -> bool
+        ensures { result ≡ true → whole self.now ≢ Some true };
+
     /// Copies the office to a new file, and prints how much the copy contains.
     fn copy<S: Alter, O: Sink, E: Sink>(
         &self,
@@ -63,7 +67,8 @@ pub trait ServedFile {
         ensures stays { WhenOpenAt (state S.Store) office.old office.new (λ s. IsReadAt s office.new.closed (state S.Store office.new.held)) }
         ensures clean { HasCleanDisk (state S.Store office.new.held) → HasCleanDisk (state S.Store office.old.held) };
 
-    /// Makes a new office from the journal of the open one, in a new file, and prints how it differs.
+    /// Makes a new office from the journal of the open one, in a new file, and prints how it differs. If the order asks for it, the
+    /// new office then takes the place of the open one.
     fn mend<S: Alter, O: Sink, E: Sink>(
         &self,
         office: &mut Office<S>,

@@ -1,7 +1,8 @@
 //! The server: connections are accepted and serviced concurrently, and their requests are processed one at a time.
 
-ghost use Rattle.std.specs.Prelude.{◌≡◌, ◌≤◌, ◌*◌, ◌<◌, ⊤, ℕ, Bool, [], IfSome, Ok, OnOk, Option, Some, is_some, length, true};
+ghost use Rattle.std.specs.Prelude.{◌≡◌, ◌≢◌, ◌≤◌, ◌*◌, ◌<◌, ⊤, ℕ, Bool, [], IfSome, Ok, OnOk, Option, Some, is_some, length, true};
 ghost use Rattle.std.specs.Duration.{as_nanos};
+ghost use Rattle.std.specs.List.{list_all};
 ghost use Rattle.sqlite.specs.State.{HasCleanDisk};
 ghost use Rattle.sqlite.specs.Held.{state};
 ghost use Rattle.connections.specs.Streams.{stream_of};
@@ -15,7 +16,7 @@ ghost use Rattle.server.specs.ServedConnections.{IsSound};
 ghost use Rattle.server.specs.Reads.{served_office, memory_entry};
 ghost use Rattle.server.specs.Settings.{ServerSettingsEntry, settings_in};
 ghost use Rattle.server.specs.Servicing.{HasSentNothing, LooksAtGate, WasServiced};
-ghost use Rattle.server.specs.Servers.{GoesOn, IsCalled, IsEndedBy, IsRound, IsSettled, IsUnfailed, ServesConnections, ServesFrom};
+ghost use Rattle.server.specs.Servers.{GoesOn, IsCalled, IsEndedBy, IsRound, IsSettled, IsUnfailed, OnMoved, ServesConnections, ServesFrom, is_idle};
 
 use crate::blind::servers_answer_as_seen;
 use crate::serve_error::ServeError;
@@ -27,7 +28,7 @@ use connections::closing::{
     TIMEOUT, close_all, close_timed_out, evict_if_full, evict_one, keep_within,
 };
 use connections::connection_table::{longest_waiting, place_of_number};
-use connections::{AcceptOutcome, Client, CloseReason, ConnectionTable, Network};
+use connections::{AcceptOutcome, Client, CloseReason, ConnectionTable, Listener, Network};
 use office::Office;
 use sqlite::Alter;
 use std::alloc::{AllocError, Global};
@@ -278,8 +279,38 @@ fn end_round<D: Network>(
     Ok(false)
 }
 
-/// Serves in rounds, until all clients have been accepted and all connections are closed. Each round begins by servicing the
-/// connections that are ready.
+/// Returns whether a connection is a client's, and has no response that is still to be sent.
+fn is_idle<L>(client: &Client<L>) -> bool
+    ensures { result ≡ is_idle client.now }
+{
+    match client.listener {
+        Listener::Clients => client.answer.is_none(),
+        Listener::Orders => false,
+    }
+}
+
+/// Returns whether all of these connections are idle.
+fn are_idle<L>(clients: &[Client<L>]) -> bool
+    ensures { result ≡ list_all is_idle clients.now }
+{
+    for client in clients {
+        if !is_idle(client) {
+            return false;
+        }
+    }
+    true
+}
+
+/// Returns whether a new office has taken the place of the one that is served, and all of these connections are idle.
+fn has_moved<A: ServedFile, L>(served_file: &A, clients: &[Client<L>]) -> bool
+    ensures idle { result ≡ true → list_all is_idle clients.now ≡ true }
+    ensures moved { result ≡ true → A.whole served_file.now ≢ Some true }
+{
+    served_file.has_moved() && are_idle(clients)
+}
+
+/// Serves in rounds, until all clients have been accepted and all connections are closed, or until a new office has taken the place
+/// of the one that is served and all connections are idle. Each round begins by servicing the connections that are ready.
 fn serve_rounds<D: Network, A: ServedFile, S: Alter>(
     network: &mut D,
     serving: RoundSettings<'_, A>,
@@ -295,12 +326,20 @@ fn serve_rounds<D: Network, A: ServedFile, S: Alter>(
     ensures few { table.old.counted ≤ serving.entry.most → table.new.counted ≤ serving.entry.most }
     ensures all { OnOk result (serving.entry.most ≤ table.new.counted) }
     ensures none { OnOk result (table.new.clients.items ≡ []) }
+    ensures idle { OnMoved result (list_all is_idle table.new.clients.items ≡ true) }
+    ensures moved { OnMoved result ((settings_in A.whole serving.entry.server_settings).whole ≢ Some true) }
     ensures ended { IsEndedBy (D.known network.old) (D.known network.new) result }
 {
     for round in 0..ROUNDS {
         let Ok(()) = service_ready(network, serving.server_settings, table, office, kept) else {
             return Err(ServeError::Network);
         };
+        if has_moved(
+            serving.server_settings.served_file,
+            table.clients.as_slice(),
+        ) {
+            return Err(ServeError::Moved);
+        }
         match end_round(kept.alloc, network, table, serving.most) {
             Ok(true) => return Ok(()),
             Ok(false) => {}
@@ -312,7 +351,9 @@ fn serve_rounds<D: Network, A: ServedFile, S: Alter>(
 
 /// Serves the connections of a network under the given settings: the origin of a proxy, the gate, and what is shown in public,
 /// if any. Serves until the given number of clients have been accepted and all connections are closed, or indefinitely if no
-/// number is given. Orders are accepted too, before clients, and don't count.
+/// number is given. Orders are accepted too, before clients, and don't count. Serving also ends once a new office has taken the
+/// place of this one; but first every response is sent, and every order that has been accepted gets one, or its connection is
+/// closed early.
 ///
 /// Requests are received concurrently, and responses are sent concurrently. A request is processed once all of it has arrived,
 /// whether it is from a client or an order; all requests are processed in the same office. At most 512 connections are open at
@@ -338,9 +379,9 @@ fn serve_rounds<D: Network, A: ServedFile, S: Alter>(
 /// What a clerk sees of the office determines what is sent under that clerk's number, apart from faults and from the responses
 /// saying that the client must wait or that the file is gone.
 ///
-/// The error says why serving ended early: the network or its clock failed, the table couldn't be allocated, or the number of
-/// rounds reached its maximum. What was answered before that remains valid. The connections that are still open then are
-/// closed.
+/// The error says why serving ended early: the network or its clock failed, the table couldn't be allocated, the number of
+/// rounds reached its maximum, or a new office took the place of this one. What was answered before that remains valid. The
+/// connections that are still open then are closed.
 pub fn serve_connections<D: Network, A: ServedFile, S: Alter>(
     alloc: Global,
     network: &mut D,

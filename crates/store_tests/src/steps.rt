@@ -300,6 +300,10 @@ impl ServedFile for Unaided {
         true
     }
 
+    fn has_moved(&self) -> bool {
+        false
+    }
+
     fn copy<S: Alter, O: Sink, E: Sink>(
         &self,
         _office: &mut Office<S>,

@@ -11,8 +11,8 @@ use Rattle.count_office.proofs.MemoryLemmas.{memory_is_blank, memory_is_clean}
 use Rattle.count_office.proofs.MendLemmas.{mend_closed, mend_ended, mend_failed, mend_told}
 use Rattle.count_office.proofs.mends.fill_mended.Goals as goal
 
-pub finish-requires : goal.finish-requires
-finish-requires g c = λ zero.
+pub finish_mended-requires : goal.finish_mended-requires
+finish_mended-requires g c = λ zero.
     let told = c.mend_open-status.ensures.made in
     let outputs = outputs_of g.O.Sink.taken g.O.Sink.failed g.E.Sink.taken g.E.Sink.failed in
     let all = whole_at_zero told.cut (outputs c.args.out.now c.args.err.now) (outputs c.mend_open-status.new.out c.mend_open-status.new.err) told.page c.mend_open-status.result.0 zero told.shown in
@@ -44,10 +44,10 @@ returns-clause-told g c =
     let told = made.ensures.made in
     let outputs = outputs_of g.O.Sink.taken g.O.Sink.failed g.E.Sink.taken g.E.Sink.failed in
     mend_ended g.O.Sink.taken g.O.Sink.failed g.E.Sink.taken g.E.Sink.failed (state g.S.Store) c.args.office.now made.new.office c.args.asked.now
-    (outputs c.args.out.now c.args.err.now) (outputs made.new.out c.finish.new.err) c.finish.result
+    (outputs c.args.out.now c.args.err.now) (outputs made.new.out c.finish_mended.new.err) c.finish_mended.result
     (mend_closed g.O.Sink.taken g.O.Sink.failed g.E.Sink.taken g.E.Sink.failed
     (λ (p : Page). WhenOpenAt (state g.S.Store) c.args.office.now made.new.office (λ s. IsMendTold s c.args.asked.now p))
-    c.args.out.now made.new.out c.args.err.now made.new.err c.finish.new.err made.result.0 c.finish.result
+    c.args.out.now made.new.out c.args.err.now made.new.err c.finish_mended.new.err made.result.0 c.finish_mended.result
     (record {
       page = told.page;
       cut = told.cut;
@@ -55,4 +55,4 @@ returns-clause-told g c =
       is = λ clean was s at. mend_told s c.args.asked.now told.page made.result.1 _ _ (told.is clean was s at (memory_is_clean made.result.2.journal) (memory_is_clean made.result.2.mended)
           (memory_is_blank c.in-Ok.trial.journal c.in-Ok.ensures.0) (memory_is_blank c.in-Ok.trial.mended c.in-Ok.ensures.1));
     })
-    c.finish.ensures.other c.finish.ensures.whole)
+    c.finish_mended.ensures.other c.finish_mended.ensures.whole)

@@ -1,5 +1,6 @@
 -- Proof that `serve_at` meets its contract if the network was opened.
-use Rattle.std.proofs.Common.{◌∙◌, option_map, subst, sym, Ok, Err}
+use Rattle.std.proofs.Common.{◌∙◌, option_map, subst, sym}
+use Rattle.std.specs.Prelude.{Result}
 use Rattle.sqlite.specs.Held.{state}
 use Rattle.connections.specs.Streams.{stream_of}
 use Rattle.wire.specs.Gates.{public_entry}
@@ -8,28 +9,16 @@ use Rattle.count_office.specs.Serving.{MayServe}
 use Rattle.count_office.proofs.ServingLemmas.{IsGivenBy, served_on}
 use Rattle.count_office.proofs.serving.serve_at.Goals as goal
 
-pub returns-in-Ok : goal.returns-in-Ok
-returns-in-Ok g c =
-    let line = stream_of g.H.Sockets.Stream.Stream.held g.H.Sockets.Stream.Stream.taken g.H.Sockets.Stream.Stream.failed in
-    let known = g.H.Host.known in
-    let found = c.in_ok-network in
-    let through = c.serve_through-ended in
-    served_on c.args.serving c.args.gate_files.now (option_map public_entry c.public_of.result)
-    (g.H.Host.file c.args.host.now) found.field-0.file (g.H.Side.ServedFile.whole found.field-0.served_file) line
-    (state g.S.Store) (known c.args.host.now) (known c.open.new.self) (known c.close.new.self)
-    (g.H.Sockets.Network.known found.field-0.network) (g.H.Sockets.Network.known through.new.network) c.args.office.now through.new.office (Ok c.in-Ok.field-0)
-    found.ensures.same found.ensures.known c.close.ensures.known c.close.ensures.others found.ensures.file (c.public_of.ensures ∙ c.in_ok-texts.ensures) c.in-Ok.ensures
-
 pub returns : goal.returns
 returns g c =
     let line = stream_of g.H.Sockets.Stream.Stream.held g.H.Sockets.Stream.Stream.taken g.H.Sockets.Stream.Stream.failed in
     let known = g.H.Host.known in
     let found = c.in_ok-network in
     let through = c.serve_through-ended in
-    subst (λ (why : Failure). MayServe (IsGivenBy c.args.serving c.args.gate_files.now (g.H.Host.file c.args.host.now)) line (state g.S.Store) c.args.serving.port
-    (known c.args.host.now) (known c.close.new.self) c.args.serving.connections c.args.office.now through.new.office (Err why)) (sym c.failure_of.ensures)
+    subst (λ (outcome : Result (Unit {0}) Failure). MayServe (IsGivenBy c.args.serving c.args.gate_files.now (g.H.Host.file c.args.host.now)) line (state g.S.Store) c.args.serving.port
+    (known c.args.host.now) (known c.close.new.self) c.args.serving.connections c.args.office.now through.new.office outcome) (sym c.outcome_of.ensures)
     (served_on c.args.serving c.args.gate_files.now (option_map public_entry c.public_of.result)
     (g.H.Host.file c.args.host.now) found.field-0.file (g.H.Side.ServedFile.whole found.field-0.served_file) line
     (state g.S.Store) (known c.args.host.now) (known c.open.new.self) (known c.close.new.self)
-    (g.H.Sockets.Network.known found.field-0.network) (g.H.Sockets.Network.known through.new.network) c.args.office.now through.new.office (Err c.in-Err.ended)
-    found.ensures.same found.ensures.known c.close.ensures.known c.close.ensures.others found.ensures.file (c.public_of.ensures ∙ c.in_ok-texts.ensures) c.in-Err.ensures)
+    (g.H.Sockets.Network.known found.field-0.network) (g.H.Sockets.Network.known through.new.network) c.args.office.now through.new.office through.result
+    found.ensures.same found.ensures.known c.close.ensures.known c.close.ensures.others found.ensures.file (c.public_of.ensures ∙ c.in_ok-texts.ensures) through.ensures)

@@ -39,6 +39,16 @@ returns-in_default-clause-goes_on g c =
     (served_office went.new.office (memory_entry went.new.kept)) c.loop-round.invariant.goes_on
     went.ensures.goes_on
 
+pub returns-then-clause-goes_on : goal.returns-then-clause-goes_on
+returns-then-clause-goes_on g c =
+    let known = g.D.Network.known in
+    let went = c.service_ready in
+    serves_then (settings_in g.A.ServedFile.whole c.args.serving.server_settings) (stream_of g.D.Stream.Stream.held g.D.Stream.Stream.taken g.D.Stream.Stream.failed)
+    (state g.S.Store) (known c.args.network.now) (known c.loop-round.network) (known went.new.network) c.args.table.now c.loop-round.table went.new.table
+    (served_office c.args.office.now (memory_entry c.args.kept.now)) (served_office c.loop-round.office (memory_entry c.loop-round.kept))
+    (served_office went.new.office (memory_entry went.new.kept)) c.loop-round.invariant.goes_on
+    went.ensures.goes_on
+
 pub loop-round-preserved : goal.loop-round-preserved
 loop-round-preserved g c =
     let settings = settings_in g.A.ServedFile.whole c.args.serving.server_settings in
