@@ -1,6 +1,6 @@
 -- The changes to the orders of an office: which are left out, which replace others, and which wards are affected.
-use Rattle.std.specs.Prelude.{◌≡◌, ◌≢◌, ℕ, Bool, true, false, ◌==◌, ◌&&◌, List, [], ◌∷◌, Option, Some, None, find, map, string_bytes, if◌then◌else◌, count_by}
-use Rattle.std.specs.List.{Contains, flat_map, list_any, list_all}
+use Rattle.std.specs.Prelude.{◌≡◌, ℕ, Bool, true, not, ◌==◌, ◌&&◌, List, [], ◌∷◌, Option, Some, None, find, map, string_bytes, if◌then◌else◌, count_by}
+use Rattle.std.specs.List.{flat_map, list_any, list_all}
 use Rattle.std.specs.Str.{bytes_eq}
 use Rattle.register.specs.Machine.{subject_of}
 use Rattle.register.specs.declared.command.Command.{Command}
@@ -100,19 +100,36 @@ is_name_of_one orders name = list_any (λ r. bytes_eq (order_name r) name) order
 abbrev pub places_for : List Request → Request → ℕ
 places_for orders other = count_by (λ r. takes_place_of r other) orders
 
+-- each name is that of an order
+abbrev pub AreNamed : Changes → Type 0
+AreNamed changes = list_all (is_name_of_one changes.orders.now) (names_of changes) ≡ true
+
+-- each replacing order matches exactly one order
+abbrev pub ArePlaced : Changes → Type 0
+ArePlaced changes = list_all (λ other. places_for changes.orders.now other == 1) changes.instead.now ≡ true
+
 -- The changes can be made: each name is that of an order, and each replacing order matches exactly one order and is the only one that does.
 pub record CanBeMade (changes : Changes) : Type 0 where
-  pub named : list_all (is_name_of_one changes.orders.now) (names_of changes) ≡ true
-  pub placed : list_all (λ other. places_for changes.orders.now other == 1) changes.instead.now ≡ true
+  pub named : AreNamed changes
+  pub placed : ArePlaced changes
   pub once : list_all (λ other. places_for changes.instead.now other == 1) changes.instead.now ≡ true
 
--- one of the replacing orders, with this subject, matches this many of the orders rather than exactly one
-abbrev pub MissesOne : List Request → List Request → ℕ → List ℕ → Type 0
-MissesOne instead orders count subject = (other : Request) × Contains instead other × (places_for orders other ≡ count) × (count ≢ 1) × (subject ≡ subject_of other.command)
+-- the first of the names that isn't the name of any order
+abbrev pub first_unnamed : List Request → List (List ℕ) → Option (List ℕ)
+first_unnamed orders names = find (λ name. not (is_name_of_one orders name)) names
 
--- The reason why the changes can't be made holds. No order has this name; this many orders, rather than exactly one, could be replaced by the order with this subject;
--- or this many orders, rather than one, are to replace the order with this subject.
+-- the first of the replacing orders that doesn't match exactly one of the orders
+abbrev pub first_unplaced : List Request → List Request → Option Request
+first_unplaced orders instead = find (λ other. not (places_for orders other == 1)) instead
+
+-- the first of the replacing orders that doesn't match exactly one of these orders has this subject, and matches this many of them
+abbrev pub MissesOne : List Request → List Request → ℕ → List ℕ → Type 0
+MissesOne orders instead count subject = (other : Request) × (first_unplaced orders instead ≡ Some other) × (places_for orders other ≡ count) × (subject ≡ subject_of other.command)
+
+-- The first reason why the changes can't be made. No order has this name, and it is the first such name. If each name is that of an order: this many orders, rather than
+-- exactly one, could be replaced by the first such order, which has this subject. If each replacing order matches exactly one: this many orders, rather than one, are
+-- to replace the order with this subject.
 abbrev pub IsFlawOf : Changes → Flaw → Type 0
-IsFlawOf changes (NoSuchOrder name) = Contains (names_of changes) (string_bytes name) × (is_name_of_one changes.orders.now (string_bytes name) ≡ false)
-IsFlawOf changes (NotOne count subject) = MissesOne changes.instead.now changes.orders.now count (string_bytes subject)
-IsFlawOf changes (Several count subject) = MissesOne changes.instead.now changes.instead.now count (string_bytes subject)
+IsFlawOf changes (NoSuchOrder name) = first_unnamed changes.orders.now (names_of changes) ≡ Some (string_bytes name)
+IsFlawOf changes (NotOne count subject) = AreNamed changes × MissesOne changes.orders.now changes.instead.now count (string_bytes subject)
+IsFlawOf changes (Several count subject) = AreNamed changes × ArePlaced changes × MissesOne changes.instead.now changes.instead.now count (string_bytes subject)

@@ -1,8 +1,8 @@
 //! Checks whether changes can be made to the orders of an office.
 
-ghost use Rattle.std.specs.Prelude.{◌≡◌, ◌==◌, IfOk, IfNone, IfSome, map, string_bytes, true};
+ghost use Rattle.std.specs.Prelude.{◌≡◌, ◌==◌, IfOk, IfNone, IfSome, true};
 ghost use Rattle.std.specs.List.{list_all};
-ghost use Rattle.mending.specs.Changes.{CanBeMade, IsFlawOf, is_name_of_one, places_for};
+ghost use Rattle.mending.specs.Changes.{AreNamed, ArePlaced, CanBeMade, IsFlawOf, is_name_of_one, places_for};
 
 use crate::changes::{Changes, Flaw};
 use crate::names::{order_name, subject_of, takes_place_of};
@@ -34,9 +34,9 @@ fn places_for(alloc: Global, orders: &[Request], other: &Request) -> Result<usiz
     Ok(count)
 }
 
-/// Returns a flaw if one of the names isn't the name of any order.
+/// Returns a flaw if one of the names isn't the name of any order: the first such name.
 fn flaw_of_names(alloc: Global, changes: Changes<'_>) -> Result<Option<Flaw>, AllocError>
-    ensures none { IfOk result (λ found. IfNone found (list_all (is_name_of_one changes.entry.orders.now) (map string_bytes changes.entry.without.now) ≡ true)) }
+    ensures none { IfOk result (λ found. IfNone found (AreNamed changes.entry)) }
     ensures some { IfOk result (λ found. IfSome found (IsFlawOf changes.entry)) }
 {
     for name in changes.without {
@@ -47,10 +47,10 @@ fn flaw_of_names(alloc: Global, changes: Changes<'_>) -> Result<Option<Flaw>, Al
     Ok(None)
 }
 
-/// Returns a flaw if one of the replacing orders could replace no order, or more than one.
+/// Returns a flaw if one of the replacing orders could replace no order, or more than one: the first of those.
 fn flaw_of_places(alloc: Global, changes: Changes<'_>) -> Result<Option<Flaw>, AllocError>
-    ensures none { IfOk result (λ found. IfNone found (list_all (λ other. places_for changes.entry.orders.now other == 1) changes.entry.instead.now ≡ true)) }
-    ensures some { IfOk result (λ found. IfSome found (IsFlawOf changes.entry)) }
+    ensures none { IfOk result (λ found. IfNone found (ArePlaced changes.entry)) }
+    ensures some { AreNamed changes.entry → IfOk result (λ found. IfSome found (IsFlawOf changes.entry)) }
 {
     for other in changes.instead {
         let count = places_for(alloc, changes.orders, other)?;
@@ -61,10 +61,10 @@ fn flaw_of_places(alloc: Global, changes: Changes<'_>) -> Result<Option<Flaw>, A
     Ok(None)
 }
 
-/// Returns a flaw if two of the replacing orders would replace the same order.
+/// Returns a flaw if two of the replacing orders would replace the same order: the first of those.
 fn flaw_of_others(alloc: Global, changes: Changes<'_>) -> Result<Option<Flaw>, AllocError>
     ensures none { IfOk result (λ found. IfNone found (list_all (λ other. places_for changes.entry.instead.now other == 1) changes.entry.instead.now ≡ true)) }
-    ensures some { IfOk result (λ found. IfSome found (IsFlawOf changes.entry)) }
+    ensures some { AreNamed changes.entry → ArePlaced changes.entry → IfOk result (λ found. IfSome found (IsFlawOf changes.entry)) }
 {
     for other in changes.instead {
         let count = places_for(alloc, changes.instead, other)?;
@@ -75,8 +75,9 @@ fn flaw_of_others(alloc: Global, changes: Changes<'_>) -> Result<Option<Flaw>, A
     Ok(None)
 }
 
-/// Returns why the changes can't be made to the orders of the office; `None` if they can. Either no order has one of the names, or
-/// one of the replacing orders doesn't match exactly one order, or two of them match the same one.
+/// Returns the first reason why the changes can't be made to the orders of the office; `None` if they can. Either no order has one of
+/// the names; or, if each name is that of an order, one of the replacing orders doesn't match exactly one order; or, if each does, two
+/// of them match the same one.
 pub fn flaw_in(alloc: Global, changes: Changes<'_>) -> Result<Option<Flaw>, AllocError>
     ensures none { IfOk result (λ found. IfNone found (CanBeMade changes.entry)) }
     ensures some { IfOk result (λ found. IfSome found (IsFlawOf changes.entry)) }
