@@ -36,6 +36,19 @@ pub error_ends : {E : Type 0} (taken : E → Option (List ℕ)) (calls : E → �
 error_ends taken calls old new text ends (inl all) = all.2
 error_ends taken calls old new text ends (inr part) = part.2
 
+module _ {E : Type 0} (taken : E → Option (List ℕ)) (calls : E → ℕ) (err err_mid : E) (status closed : ℕ) where
+  -- if closing the files ended with status 0, what was printed before had status 0 too, and nothing else was printed
+  pub closed_at_zero : (¬ (status ≡ 0) → (closed ≡ status) × (err_mid ≡ err)) → (status ≡ 0 → EndsCopy taken calls err err_mid closed) → closed ≡ 0 → (status ≡ 0) × (err_mid ≡ err)
+  closed_at_zero other whole zero = by (status == 0) refl
+    where
+      quiet : EndsCopy taken calls err err_mid closed → err_mid ≡ err
+      quiet (inl same) = same.1
+      quiet (inr error) = let three = error_ends taken calls err err_mid (failed CopyFailed).err closed error in absurd (omega (arith, three, zero))
+
+      by : (t : Bool) → (status == 0) ≡ t → (status ≡ 0) × (err_mid ≡ err)
+      by true e = let none = eqb-true status 0 e in (none, quiet (whole none))
+      by false e = let it = other (λ none. true≢false (sym (ap (λ n. n == 0) none) ∙ e)) in (sym it.0 ∙ zero, it.1)
+
 module _ {O E : Type 0} (taken : O → Option (List ℕ)) (calls : O → ℕ) (taken_err : E → Option (List ℕ)) (calls_err : E → ℕ) where
   abbrev outputs : O → E → Outputs
   outputs out err = outputs_of taken calls taken_err calls_err out err

@@ -45,6 +45,15 @@ fn path_of_copy(alloc: Global, database: &str, to: Destination<'_>) -> Result<Pa
     folder.join(alloc, to.path)
 }
 
+impl LocalFile<'_> {
+    /// Records that a new office has taken the place of this one, if it was to do so and the order ended with status 0.
+    fn learn_if_moved(&self, asked: &MendOrder<'_>, status: u8) {
+        if asked.takes_over && status == 0 {
+            self.is_moved.set(true);
+        }
+    }
+}
+
 impl ServedFile for LocalFile<'_> {
     ghost whole = { λ _. None };
 
@@ -100,9 +109,7 @@ impl ServedFile for LocalFile<'_> {
                     database: self.file_watch.database(),
                 };
                 let status = mend_served(old, office, asked, path.as_str(), out, err);
-                if status == 0 && asked.takes_over {
-                    self.is_moved.set(true);
-                }
+                self.learn_if_moved(asked, status);
                 status
             }
             Err(AllocError) => tell_failure(Failure::Office(Fault::Memory), err),
