@@ -43,7 +43,7 @@ module _ {O E : Type 0} (taken : O → Option (List ℕ)) (calls : O → ℕ) (t
   module _ (P : Page → Type 0) where
     -- the page, possibly followed by the failure to close the files
     abbrev pub Ended : Page → Type 0
-    Ended page = P page ⊎ ((made : Page) × P made × (page ≡ below made (failed CopyFailed)))
+    Ended page = P page ⊎ ((made : Page) × P made × (made.status ≡ 0) × (page ≡ below made (failed CopyFailed)))
 
     -- what is printed, followed, with status 0, by the outcome of closing the files
     pub mend_closed : (out out_new : O) (err err_mid err_new : E) (status ends : ℕ) → Tells (outputs out err) (outputs out_new err_mid) status (λ cut page. P page)
@@ -70,7 +70,7 @@ module _ {O E : Type 0} (taken : O → Option (List ℕ)) (calls : O → ℕ) (t
               cut = cut_below told.page.out next.0;
               shown = shown_last next.0 (outputs out err) (outputs out_new err_mid) (outputs out_new err_new) told.page (failed CopyFailed) status ends first next.1
                   (λ none. absurd (omega (arith, three, none)));
-              is = inr (told.page, told.is, refl);
+              is = inr (told.page, told.is, sym first.ends ∙ zero, refl);
             }
 
         at_zero : status ≡ 0 → EndsCopy taken_err calls_err err_mid err_new ends → Tells (outputs out err) (outputs out_new err_new) ends (λ cut page. Ended page)

@@ -1,11 +1,15 @@
 -- Making a new office from the journal of another.
-use Rattle.std.proofs.Common.{◌≡◌, ◌⊎◌, ◌∙◌, ◌++◌, inl, inr, ℕ, Bool, List, [], ◌∷◌, map, Result, Ok, Err, codes, string_bytes, refl, sym, ap}
+use Rattle.std.proofs.Common.{◌≡◌, ◌≢◌, ◌⊎◌, ◌∙◌, ◌++◌, inl, inr, ℕ, Bool, List, [], ◌∷◌, map, Result, Ok, Err, codes, string_bytes, refl, sym, ap, arith}
 use Rattle.clap.specs.Words.{Text}
-use Rattle.sqlite.specs.State.{State}
+use Rattle.sqlite.specs.State.{HasCleanDisk, State}
 use Rattle.register.specs.Machine.{Outcome, accepted, kept, refused}
 use Rattle.register.specs.Offices.{OfficeState}
 use Rattle.register.specs.declared.refusal.Reason.{Reason}
+use Rattle.store.specs.Openings.{IsBlank}
 use Rattle.store.specs.Overviews.{WardView, ward_views}
+use Rattle.store.specs.StateTables.{IsAt}
+use Rattle.store.specs.declared.copying.CopyFault.{CopyFault}
+use Rattle.store.specs.declared.copying.CopyFault.TheVariants as copy_fault
 use Rattle.office.specs.Answers.{IsReadAt, Told, again, done, no, told_of}
 use Rattle.office.specs.Overviews.{wards_answer}
 use Rattle.office.specs.Reads.{Read}
@@ -17,10 +21,12 @@ use Rattle.mending.specs.declared.changes.Changes.{Changes}
 use Rattle.mending.specs.declared.mended.Mended.{Mended}
 use Rattle.mending.specs.declared.recipients.Sent.{Sent}
 use Rattle.mending.specs.declared.recipients.Sent.TheVariants.{Accepted, Known, Denied}
-use Rattle.desk.specs.Mends.{IsTried, IsUnmade, differing, mended_text, ward_lines}
+use Rattle.desk.specs.Copying.{state_behind}
+use Rattle.desk.specs.Mends.{HoldsMended, IsTried, IsUnmade, IsUnread, differing, mended_text, unsent_text, ward_lines}
 use Rattle.desk.specs.Overviews.{ward_line}
-use Rattle.desk.specs.Pages.{Page}
+use Rattle.desk.specs.Pages.{Page, failed, failure_of, unmended}
 use Rattle.desk.specs.declared.copying.CopyState.{CopyState}
+use Rattle.desk.specs.declared.copying.CopyState.TheVariants.{Unknown, Untouched, Whole}
 
 -- ---- sending an order: its outcome is that of the machine
 
@@ -93,3 +99,22 @@ text_told before after p m text point lines is =
 -- no new office was made, and nothing was written
 pub unmade : (before : List Text) (changes : Changes) (page : Page) (left : CopyState) (st : State) → IsUnmade changes page → IsTried before changes page left st st
 unmade before changes page left st why = record { told = inr why; stops = λ honest blank trees may. inl may }
+
+-- if the orders couldn't be read, the status isn't 0
+pub ends_unread : (page : Page) → (page ≡ unmended unsent_text) ⊎ IsUnread page → page.status ≢ 0
+ends_unread page (inl is) zero = let one : page.status ≡ 1 = ap (λ (p : Page). p.status) is in absurd (omega (arith, one, zero))
+ends_unread page (inr (inl is)) zero = let one : page.status ≡ 1 = ap (λ (p : Page). p.status) is in absurd (omega (arith, one, zero))
+ends_unread page (inr (inr (failure, is))) zero = let three : page.status ≡ 3 = ap (λ (p : Page). p.status) is in absurd (omega (arith, three, zero))
+
+-- what is reported after a copy that failed is true
+pub mended_behind : (why : CopyFault) (new_old new_new : State) → HoldsMended (state_behind why) (failed (failure_of why)) new_old new_new
+mended_behind (copy_fault.Office fault) new_old new_new = omega arith
+mended_behind copy_fault.Taken new_old new_new = omega arith
+mended_behind (copy_fault.Copy fault) new_old new_new = (failure_of (copy_fault.Copy fault), refl)
+
+-- if the status is 0, the new office is complete
+pub whole_mended : (left : CopyState) (page : Page) (new_old new_new : State) → page.status ≡ 0 → HoldsMended left page new_old new_new
+    → (left ≡ Whole) × (HasCleanDisk new_new → IsBlank new_old → (s : OfficeState) × IsAt s new_new)
+whole_mended Whole page new_old new_new zero it = (refl, it.1)
+whole_mended Untouched page new_old new_new zero it = absurd (it zero)
+whole_mended Unknown page new_old new_new zero it = let three : page.status ≡ 3 = ap (λ (p : Page). p.status) it.1 in absurd (omega (arith, three, zero))

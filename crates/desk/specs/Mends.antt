@@ -1,5 +1,5 @@
 -- The outcome of an order to mend: a new office from the journal of another, with some orders left out and others replaced.
-use Rattle.std.specs.Prelude.{◌≡◌, ◌⊎◌, ◌++◌, List, [], codes, if◌then◌else◌, map, string_bytes}
+use Rattle.std.specs.Prelude.{◌≡◌, ◌≢◌, ◌⊎◌, ◌++◌, List, [], codes, if◌then◌else◌, length, map, string_bytes}
 use Rattle.std.specs.List.{flat_map, list_any}
 use Rattle.std.specs.Str.{bytes_eq}
 use Rattle.clap.specs.Words.{Text}
@@ -21,7 +21,7 @@ use Rattle.desk.specs.Journals.{IsScriptOf}
 use Rattle.desk.specs.Overviews.{ward_line}
 use Rattle.desk.specs.Pages.{Page, below, failed, line, printed, unjournalled, unmended}
 use Rattle.desk.specs.declared.copying.CopyState.{CopyState}
-use Rattle.desk.specs.declared.copying.CopyState.TheVariants.{Untouched, Whole}
+use Rattle.desk.specs.declared.copying.CopyState.TheVariants.{Unknown, Untouched, Whole}
 use Rattle.desk.specs.declared.lines.Failure.{Failure}
 use Rattle.desk.specs.declared.lines.Failure.TheVariants.{CopyFailed}
 use Rattle.desk.specs.declared.orders.MendOrder.{MendOrder}
@@ -33,11 +33,12 @@ abbrev pub script_of : List Text → Text
 script_of lines = flat_map line lines
 
 -- The changes that an order to mend asks for in the office at a state. Their orders are those of a journal, which lead to this state. The names to leave out and the
--- orders that replace others are those that the words give.
+-- orders that replace others are those that the words give, an order for each text.
 pub record AreAsked (s : OfficeState) (m : MendOrder) (changes : Changes) : Type 0 where
   pub orders : LeadTo changes.orders.now s
   pub without : names_of changes ≡ map string_bytes m.without.items
   pub instead : IsScriptOf (script_of (map string_bytes m.instead.items)) changes.instead.now
+  pub each : length changes.instead.now ≡ length m.instead.items
 
 -- ---- what is printed
 
@@ -83,6 +84,13 @@ pub record IsTried (before : List Text) (changes : Changes) (page : Page) (left 
   pub told : IsMade before changes page left new_old new_new ⊎ IsUnmade changes page
   pub stops : HasCleanDisk new_new → IsBlank new_old → LeavesNoneOrAll (mended changes).state new_old new_new
 
+-- What is reported about the new database is true for any office. If it is reported to contain the whole new office, a text is printed with status 0, and it contains an
+-- office. With any other report the status isn't 0; and if it isn't known what the database contains, a failure is reported.
+abbrev pub HoldsMended : CopyState → Page → State → State → Type 0
+HoldsMended Whole page new_old new_new = ((text : Text) × (page ≡ printed text)) × (HasCleanDisk new_new → IsBlank new_old → (s : OfficeState) × IsAt s new_new)
+HoldsMended Untouched page new_old new_new = page.status ≢ 0
+HoldsMended Unknown page new_old new_new = (failure : Failure) × (page ≡ failed failure)
+
 -- the orders of the office couldn't be read: the page says that it has no journal, or reports a failure
 abbrev pub IsUnread : Page → Type 0
 IsUnread page = (page ≡ unjournalled) ⊎ ((failure : Failure) × (page ≡ failed failure))
@@ -100,6 +108,6 @@ IsMendTold s m page =
     × ((CanBeMade changes × IsMended changes (mended changes) × (page ≡ printed (mended_text (ward_lines s) (mended changes)))) ⊎ IsUnmade changes page))
     ⊎ ((page ≡ unmended unsent_text) ⊎ IsUnread page)
 
--- the same page, possibly followed by the failure to merge the log of the new office into its file
+-- the same page; if it says that the new office was made, it may be followed by the failure to merge the log of that office into its file
 abbrev pub IsMendPage : OfficeState → MendOrder → Page → Type 0
-IsMendPage s m page = IsMendTold s m page ⊎ ((made : Page) × IsMendTold s m made × (page ≡ below made (failed CopyFailed)))
+IsMendPage s m page = IsMendTold s m page ⊎ ((made : Page) × IsMendTold s m made × (made.status ≡ 0) × (page ≡ below made (failed CopyFailed)))

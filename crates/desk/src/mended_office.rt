@@ -3,7 +3,7 @@
 //! The orders of the journal are read back and replayed in an empty office, as for `journal`. Then they are sent, with the changes, to
 //! another empty office, which is copied to the new database, whole or not at all. The existing office is only read.
 
-ghost use Rattle.std.specs.Prelude.{◌≡◌, ◌⊎◌, ◌++◌, ◌-◌, ◌^◌, ◌<◌, false, codes, map, string_bytes, IfErr, IfOk};
+ghost use Rattle.std.specs.Prelude.{◌≡◌, ◌⊎◌, ◌++◌, ◌-◌, ◌^◌, ◌<◌, false, codes, length, map, string_bytes, IfErr, IfOk};
 ghost use Rattle.std.specs.List.{list_any};
 ghost use Rattle.std.specs.Str.{bytes_eq};
 ghost use Rattle.sqlite.specs.Held.{state};
@@ -21,7 +21,7 @@ ghost use Rattle.mending.specs.Accounts.{IsMended};
 ghost use Rattle.mending.specs.Mending.{mended};
 ghost use Rattle.mending.specs.Reports.{end_line};
 ghost use Rattle.desk.specs.Journals.{IsScriptOf};
-ghost use Rattle.desk.specs.Mends.{IsMendedOpen, IsTried, IsUnread, differing, mended_text, missing_from, script_of, unsent_text, ward_lines};
+ghost use Rattle.desk.specs.Mends.{HoldsMended, IsMendedOpen, IsTried, IsUnread, differing, mended_text, missing_from, script_of, unsent_text, ward_lines};
 ghost use Rattle.desk.specs.Pages.{Tells, line, outputs_of, page_of, unmended};
 
 use crate::copying::{CopyState, state_behind};
@@ -87,16 +87,24 @@ fn unsent(alloc: Global) -> LineOutcome
     }
 }
 
-/// Parses these lines into orders, or returns the outcome if they aren't orders that can be sent or if an allocation fails.
+/// Parses these lines into orders, one per line, or returns the outcome if they aren't orders that can be sent or if an allocation
+/// fails. A blank line or a comment isn't an order either.
 fn orders_in(alloc: Global, lines: &[String]) -> Result<Vec<Request>, LineOutcome>
     ensures ok { IfOk result (λ orders. IsScriptOf (script_of (map string_bytes lines.now)) orders.items) }
+    ensures each { IfOk result (λ orders. length orders.items ≡ length lines.now) }
     ensures err { IfErr result (λ outcome. (page_of outcome ≡ unmended unsent_text) ⊎ IsUnread (page_of outcome)) }
 {
     let Ok(script) = script_of(alloc, lines) else {
         return Err(LineOutcome::Failed(Fault::Memory));
     };
     match requests_in(alloc, script.as_str()) {
-        Ok(Some(orders)) => Ok(orders),
+        Ok(Some(orders)) => {
+            if orders.len() == lines.len() {
+                Ok(orders)
+            } else {
+                Err(unsent(alloc))
+            }
+        }
         Ok(None) => Err(unsent(alloc)),
         Err(AllocError) => Err(LineOutcome::Failed(Fault::Memory)),
     }
@@ -310,6 +318,7 @@ fn copied<T: Alter, N: Alter>(
         → IsTried (map string_bytes before.now) changes.entry (page_of result.0) result.1 (state N.Store new.old) (state N.Store new.new) }
     ensures whole { HasCleanDisk (state N.Store new.new) → IsBlank (state N.Store new.old)
         → (trees : Trees) → (state N.Store new.new).may_leave trees → (state N.Store new.old).may_leave trees ⊎ ((x : OfficeState) × StoresState x trees) }
+    ensures holds { HoldsMended result.1 (page_of result.0) (state N.Store new.old) (state N.Store new.new) }
     ensures untouched { result.1 ≡ CopyState.Untouched → new.new ≡ new.old }
     ensures clean { HasCleanDisk (state T.Store made.new.office.held) → HasCleanDisk (state T.Store made.old.office.held) }
 {
@@ -337,6 +346,7 @@ fn made<T: Alter, N: Alter>(
         → IsTried (map string_bytes before.now) changes.entry (page_of result.0) result.1 (state N.Store new.old) (state N.Store new.new) }
     ensures whole { HasCleanDisk (state N.Store new.new) → IsBlank (state N.Store new.old)
         → (trees : Trees) → (state N.Store new.new).may_leave trees → (state N.Store new.old).may_leave trees ⊎ ((x : OfficeState) × StoresState x trees) }
+    ensures holds { HoldsMended result.1 (page_of result.0) (state N.Store new.old) (state N.Store new.new) }
     ensures untouched { result.1 ≡ CopyState.Untouched → new.new ≡ new.old }
 {
     match Office::create(alloc, blank) {
@@ -362,6 +372,7 @@ fn checked<T: Alter, N: Alter>(
         → IsTried (map string_bytes before.now) changes.entry (page_of result.0) result.1 (state N.Store new.old) (state N.Store new.new) }
     ensures whole { HasCleanDisk (state N.Store new.new) → IsBlank (state N.Store new.old)
         → (trees : Trees) → (state N.Store new.new).may_leave trees → (state N.Store new.old).may_leave trees ⊎ ((x : OfficeState) × StoresState x trees) }
+    ensures holds { HoldsMended result.1 (page_of result.0) (state N.Store new.old) (state N.Store new.new) }
     ensures untouched { result.1 ≡ CopyState.Untouched → new.new ≡ new.old }
 {
     match flaw_in(alloc, changes) {
@@ -398,6 +409,7 @@ fn mended_open<S: Alter, T: Alter, N: Alter>(
     ensures reads { OnlyReads (state S.Store office.old.held) (state S.Store office.new.held) }
     ensures whole { HasCleanDisk (state N.Store new.new) → IsBlank (state N.Store new.old)
         → (trees : Trees) → (state N.Store new.new).may_leave trees → (state N.Store new.old).may_leave trees ⊎ ((x : OfficeState) × StoresState x trees) }
+    ensures holds { HoldsMended result.1 (page_of result.0) (state N.Store new.old) (state N.Store new.new) }
     ensures untouched { result.1 ≡ CopyState.Untouched → new.new ≡ new.old }
 {
     let instead = match orders_in(alloc, &asked.instead) {
@@ -435,8 +447,9 @@ fn mended_open<S: Alter, T: Alter, N: Alter>(
 /// state that the resulting list of orders leads to, and each order in that list was accepted. Every order of the old office is in
 /// that list unless a line says that it was left out or replaced.
 ///
-/// If a name isn't that of an order, or an order after `--with` doesn't replace exactly one, the page says so with status 1, and no
-/// office is made. The old office is only read, whatever the outcome. If the new database can't be written, the failure is 110.
+/// If a name isn't that of an order, or an order after `--with` doesn't replace exactly one, the page says so with status 1, and
+/// nothing is written. With status 0 the new database contains a whole office. The old office is only read, whatever the outcome. If
+/// the new database can't be written, the failure is 110.
 pub fn mend_open<S: Alter, T: Alter, N: Alter, O: Sink, E: Sink>(
     alloc: Global,
     office: &mut Office<S>,
@@ -449,9 +462,12 @@ pub fn mend_open<S: Alter, T: Alter, N: Alter, O: Sink, E: Sink>(
     requires out { O.failed out.old < 2 ^ 64 - 1 }
     requires err { E.failed err.old < 2 ^ 64 - 1 }
     ensures made { let outputs = outputs_of O.taken O.failed E.taken E.failed in Tells (outputs out.old err.old) (outputs out.new err.new) result.0
-        (λ _ page. WhenOpenAt (state S.Store) office.old office.new (λ s. HasCleanDisk (state T.Store result.2.journal) → HasCleanDisk (state T.Store result.2.mended)
+        (λ _ page. HoldsMended result.1 page (state N.Store new.old) (state N.Store new.new)
+        × WhenOpenAt (state S.Store) office.old office.new (λ s. HasCleanDisk (state T.Store result.2.journal) → HasCleanDisk (state T.Store result.2.mended)
         → IsBlank (state T.Store trial.journal) → IsBlank (state T.Store trial.mended)
         → IsMendedOpen s asked.now page result.1 (state N.Store new.old) (state N.Store new.new))) }
+    ensures complete { result.0 ≡ 0 → (result.1 ≡ CopyState.Whole)
+        × (HasCleanDisk (state N.Store new.new) → IsBlank (state N.Store new.old) → (s : OfficeState) × IsAt s (state N.Store new.new)) }
     ensures stays { WhenOpenAt (state S.Store) office.old office.new (λ s. IsReadAt s office.new.closed (state S.Store office.new.held)) }
     ensures reads { OnlyReads (state S.Store office.old.held) (state S.Store office.new.held) }
     ensures whole { HasCleanDisk (state N.Store new.new) → IsBlank (state N.Store new.old)

@@ -52,7 +52,7 @@ returns-clause-told g c =
       page = told.page;
       cut = told.cut;
       shown = told.shown;
-      is = λ clean was s at. mend_told s c.args.asked.now told.page made.result.1 _ _ (told.is clean was s at (memory_is_clean made.result.2.journal) (memory_is_clean made.result.2.mended)
+      is = λ clean was s at. mend_told s c.args.asked.now told.page made.result.1 _ _ (told.is.1 clean was s at (memory_is_clean made.result.2.journal) (memory_is_clean made.result.2.mended)
           (memory_is_blank c.in-Ok.trial.journal c.in-Ok.ensures.0) (memory_is_blank c.in-Ok.trial.mended c.in-Ok.ensures.1));
     })
     c.finish_mended.ensures.other c.finish_mended.ensures.whole)

@@ -1,12 +1,13 @@
 -- Proof that `copied` meets its contract.
-use Rattle.std.proofs.Common.{inl, inr, refl, sym, ap, ◌∙◌, map, string_bytes}
+use Rattle.std.proofs.Common.{inl, inr, refl, sym, subst, ap, ◌∙◌, map, string_bytes}
 use Rattle.sqlite.specs.Held.{state}
 use Rattle.mending.specs.Mending.{mended}
+use Rattle.desk.specs.Mends.{HoldsMended}
 use Rattle.desk.specs.Pages.{failed, failure_of, printed}
 use Rattle.desk.specs.declared.copying.CopyState.TheVariants.{Untouched}
 use Rattle.desk.specs.declared.lines.Failure.TheVariants.{Office}
 use Rattle.desk.proofs.CopyingLemmas.{unbegun_behind}
-use Rattle.desk.proofs.MendLemmas.{unmade}
+use Rattle.desk.proofs.MendLemmas.{mended_behind, unmade}
 use Rattle.desk.proofs.mended_office.copied.Goals as goal
 
 -- the new office couldn't be made, and nothing was written
@@ -42,3 +43,15 @@ returns-in-Err-copy_open-clause-untouched g c same = c.in-Err-copy_open.ensures.
 
 pub returns-in-Err-copy_open-clause-clean : goal.returns-in-Err-copy_open-clause-clean
 returns-in-Err-copy_open-clause-clean g c clean = c.report.ensures.clean (c.copy_open.ensures.reads.clean clean)
+
+-- what is reported about the new database
+pub returns-in-Ok-copy_open-clause-holds : goal.returns-in-Ok-copy_open-clause-holds
+returns-in-Ok-copy_open-clause-holds g c =
+    ((string_bytes c.in-Ok.text, refl), λ honest blank. let it = c.in-Ok-copy_open.ensures.made honest blank in (it.0, it.2))
+
+pub returns-in-Err-copy_open-clause-holds : goal.returns-in-Err-copy_open-clause-holds
+returns-in-Err-copy_open-clause-holds g c =
+    let old = state g.N.Store c.args.new.now in
+    let new = state g.N.Store c.copy_open.new.copy in
+    let fault = c.in-Err-copy_open.fault in
+    subst (λ left. HoldsMended left (failed (failure_of fault)) old new) (sym c.state_behind.ensures) (mended_behind fault old new)

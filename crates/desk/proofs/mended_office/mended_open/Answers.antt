@@ -1,5 +1,5 @@
 -- Proof that `mended_open` meets its contract.
-use Rattle.std.proofs.Common.{inl, inr, refl, sym, subst, ap, List, map, string_bytes}
+use Rattle.std.proofs.Common.{◌∙◌, inl, inr, refl, sym, subst, ap, List, length, map, string_bytes}
 use Rattle.clap.specs.Words.{Text}
 use Rattle.sqlite.specs.Held.{state}
 use Rattle.register.specs.declared.command.Request.{Request}
@@ -8,6 +8,8 @@ use Rattle.office.specs.Runs.{LeadTo}
 use Rattle.mending.specs.declared.changes.Changes.{Changes}
 use Rattle.desk.specs.Journals.{IsScriptOf}
 use Rattle.desk.specs.Mends.{script_of}
+use Rattle.desk.specs.Pages.{page_of}
+use Rattle.desk.proofs.MendLemmas.{ends_unread}
 use Rattle.desk.proofs.mended_office.mended_open.Goals as goal
 
 -- the texts after `--with` aren't orders that can be sent, or an allocation failed
@@ -44,6 +46,14 @@ returns-clause-made g c clean is_open s at journal mended blank second =
         orders = subst (λ (l : List Request). LeadTo l s) (sym c.deref-2.ensures.value) found.0;
         without = ap (map string_bytes) c.deref-3.ensures.value;
         instead = subst (λ (l : List Request). IsScriptOf (script_of (map string_bytes c.args.asked.now.instead.items)) l) (sym c.deref-4.ensures.value) script;
+        each = ap length c.deref-4.ensures.value ∙ c.in-Ok.ensures.each ∙ ap length c.deref.ensures.value;
       },
       rw found.1 at tried,
     )
+
+-- what is reported about the new database
+pub returns-in-Err-clause-holds : goal.returns-in-Err-clause-holds
+returns-in-Err-clause-holds g c = ends_unread (page_of c.in-Err.outcome) c.in-Err.ensures.err
+
+pub returns-in-Err-found-clause-holds : goal.returns-in-Err-found-clause-holds
+returns-in-Err-found-clause-holds g c = ends_unread (page_of c.in-Err-found.outcome) (inr (rw c.in-Err-found.is at c.orders_and_wards-found.ensures.told))
