@@ -116,7 +116,7 @@ look() {
     # a note that isn't one keeps it from serving
     rm "$folder/newer.db-serve" "$folder/new.db-moved"
     echo "newer.db" >"$folder/new.db-moved"
-    play new.db serve "$port" 1
+    play new.db serve "$port" 1 | sed "s/serve $port/serve PORT/"
     # without its file, the note keeps another office from being made there
     rm "$folder/town.db"
     play town.db init
