@@ -629,7 +629,7 @@ const CONSOLE_PLANTED = {
   'an order keeps its id': ['lineOf(it, newId())', 'lineOf(it, it.id)'],
   'a keying can be replaced': ['const REPLACEABLE = {', 'const REPLACEABLE = {\n  key: \'\','],
   'the report loses its first line': ['shownName(output + errors)', 'shownName(output.slice(output.indexOf(\'\\n\') + 1) + errors)'],
-  'the report isn\u2019t shown after a reload': ['if (order.words[0] === \'mend\') storeMended(order, printed);', ''],
+  'the report isn\u2019t shown after a reload': ['if (/^(mend|switch)$/.test(order.words[0])) storeMended(order, printed);', ''],
   'what was accepted since isn\u2019t named': ['return counts ? office.receipts -', 'return counts && -'],
   'a name in quotes is taken apart': ['/(?:"[^"]*"|\'[^\']*\'|[^\\s"\'])+/g', '/\\S+/g'],
   'the lost report isn\u2019t named': ['explainedError(errors).fault === 109', 'explainedError(errors).fault === 110'],
@@ -637,6 +637,79 @@ const CONSOLE_PLANTED = {
   'covers are offered without batches': ['batches.length ? formButton(', 'true ? formButton('],
   'of three equal batches two are named': ['[...groups.get(first) ?? [], batch, twin]', '[batch, twin]'],
 };
+
+const LATER = {actor: 9, id: 'k9', reply: 'batch 13 round 1 keyed', subject: 'key 13 1'};
+const NEW_RECEIPTS = [RECEIPTS[1], RECEIPTS[3], {actor: 0, id: 'v3', reply: 'batch 13 paper 6 accepted', subject: 'judge 13 6'}, LATER];
+const FILE_GONE = {status: 503, says: {fault: 113}};
+
+// A window in which a new office was made, and another one with the same changes is to take the place of the served one. What is in `gaps`
+// is answered first: null breaks the line.
+const goingOver = async (page, gaps, ...orders) => {
+  const [window, office] = await mending(page, [REPORT], ...orders);
+  const serve = window.office;
+  await window.order('make-mended');
+  window.storage.setItem('console copy', JSON.stringify({at: 1, name: 'copy.db'}));
+  window.office = (asked) => (gaps.length && asked.method === 'GET' ? gaps.shift() : serve(asked));
+  return [window, office];
+};
+
+Object.assign(CONSOLE_PLAYS, {
+  'the office goes over to a new one, which the console waits for, with the words of the report': async (page) => {
+    const gaps = [];
+    const [window, office] = await goingOver(page, gaps, [REPORT]);
+    office.receipts.push(LATER);
+    await window.pass(3);
+    window.sees({mending: /since it was made: 1 order\. Go over to it includes it/});
+    await window.push('go-over');
+    const asked = /judge 13 6 accept:,1Left out: 4:v2.*nothing they sent is lost.*isn\u2019t served any more/;
+    assert.match(window.question(), new RegExp(`^Go over to the new office town-5-2\\.db\\? .*${asked.source}`));
+    await window.click('ask-no');
+    window.sees({sent: [['journal'], MENDED]});
+    gaps.push(null, FILE_GONE);
+    await window.order('go-over');
+    const [, made, switched] = window.bodies();
+    assert.equal(switched, made.replace('mend', 'switch').replace('town-5.db', 'town-5-2.db'));
+    window.sees({result: /^Going over to town-5-2\.db/, health: /waiting for the new office/});
+    // The old office still answers, and then the new one.
+    await window.pass(3);
+    window.sees({result: /^Going over/, mending: /^Put right in a new officeGoing over: town-5-2\.db/});
+    office.receipts = NEW_RECEIPTS;
+    await window.pass(3);
+    window.sees({result: /^The office is now town-5-2\.db\.What belonged .* discarded: the time of the last copy, /, 'other hidden': true});
+    window.sees({mending: /The office is now: town-5-2\.db/, report: REPORT, health: /^Updated/});
+    assert.ok(!window.has('go-over') && !window.storage.getItem('console copy'));
+    office.receipts = NEW_RECEIPTS.slice(0, 2);
+    await window.pass(3);
+    window.sees({'other hidden': false});
+  },
+  'a switch that fails or has no reply changes nothing, and isn\u2019t sent again': async (page) => {
+    const [window, office] = await goingOver(page, [], ['', 'fault 110: copy failed\n', 3], [null]);
+    await window.order('go-over');
+    window.sees({mending: /The office didn\u2019t go over: town-5-2\.db.*fault 110: copy failed\n.*This office is as it was/});
+    window.sees({result: /^Not done: go over/});
+    await window.type('next-name', 'a/b.db');
+    await window.push('go-over');
+    window.sees({question: '', result: /The office didn\u2019t go over/});
+    await window.type('next-name', 'town-6.db');
+    await window.order('go-over');
+    window.sees({result: /^It isn\u2019t known whether the office went over to town-6\.db/, 'unsent hidden': true});
+    window.sees({mending: /the office went over if a file of the same name with -moved/});
+    const [later] = await consoleOf(page, {receipts: office.receipts}, window.storage);
+    await later.pass(30);
+    await later.push('tab journal');
+    later.sees({sent: [], mending: /It isn\u2019t known/, 'other hidden': true});
+    const [last] = await consoleOf(page, {receipts: NEW_RECEIPTS}, window.storage);
+    last.sees({result: /^The office is now town-6\.db/, 'other hidden': true});
+  },
+});
+
+Object.assign(CONSOLE_PLANTED, {
+  'the office goes over without a question': ['return isSure ? order(`go over', 'return true ? order(`go over'],
+  'the officer is asked about the new office': ['if (switched) acceptSwitch(switched); else if (!isGoingOver())', 'if (true)'],
+  'the old office is taken for the new one': ['return lacks && receipts.length', 'return receipts.length'],
+  'a switch is sent twice': ['words[0] === \'switch\' && isUnknown(answer)', 'words[0] === \'switches\' && isUnknown(answer)'],
+  'the switch has other words': ['[\'switch\', next, ...options]', '[\'switch\', next, ...options.slice(1)]'],
+});
 
 const TITLE = 'Election of 6 May 2027, Harbour Council';
 

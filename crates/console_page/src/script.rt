@@ -26,6 +26,7 @@ mod papers;
 mod pending;
 mod requests;
 mod sealing;
+mod switching;
 mod verdicts;
 mod words;
 
@@ -49,6 +50,7 @@ use crate::script::papers::PAPERS;
 use crate::script::pending::PENDING;
 use crate::script::requests::REQUESTS;
 use crate::script::sealing::SEALING;
+use crate::script::switching::SWITCHING;
 use crate::script::verdicts::VERDICTS;
 use crate::script::words::WORDS;
 use std::alloc::{AllocError, Global};
@@ -60,6 +62,6 @@ pub(crate) fn script_text(alloc: Global) -> Result<String, AllocError>
 {
     format!(in alloc;
         "{BASICS}{ADVICE}{WORDS}{REQUESTS}{PAPERS}{PENDING}{DIALOGS}{FRAME}{OVERVIEW}{NOMINATIONS}{GIVING}{BATCHES}\
-{KEYINGS}{ADJUDICATION}{VERDICTS}{SEALING}{CHART}{COUNTING}{DECLARING}{MENDING}{JOURNAL}{EVENTS}"
+{KEYINGS}{ADJUDICATION}{VERDICTS}{SEALING}{CHART}{COUNTING}{DECLARING}{MENDING}{SWITCHING}{JOURNAL}{EVENTS}"
     )
 }

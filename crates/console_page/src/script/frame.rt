@@ -120,14 +120,19 @@ const acceptOffice = (names, list) => {
   refresh(true);
 };
 
+const lastSeen = () => stored('seen', {receipts: 0, wards: []});
+
+// Returns how the officer knows what is discarded: what is stored under these names, and a list of candidates.
+const discardedTexts = (names, list) => [...names.map(storedText), ...(list ? [`the candidates of the file ${list.name}, which aren\u2019t added yet`] : [])];
+
 // An office only grows: it loses no receipt, and no ward changes. If this browser saw more before, this is another file or an older copy.
 const compareOffice = () => {
-  const seen = stored('seen', {receipts: 0, wards: []});
+  const seen = lastSeen();
   const wards = wardTexts();
   const same = office.receipts >= seen.receipts && seen.wards.every((it) => wards.includes(it));
   if (same && !isOther()) return store('seen', {receipts: office.receipts, wards});
   const [names, list] = [unfitting(seen), dropped];
-  const texts = [...names.map(storedText), ...(list ? [`the candidates of the file ${list.name}, which aren\u2019t added yet`] : [])];
+  const texts = discardedTexts(names, list);
   at('other').hidden = false;
   return at('other').replaceChildren(
     made('p', {className: 'said'}, 'This isn\u2019t the office that this browser used last.'),
@@ -142,19 +147,22 @@ const compareOffice = () => {
 
 let refreshing = null;
 
+// Takes what was read of all wards. `switched` is the report of the switch that has led to this office since the last look, or null.
+const takeWards = ({text, says: {receipts, wards}}, switched) => {
+  office.reads.clear();
+  Object.assign(office, {receipts, text, wards});
+  if (switched) acceptSwitch(switched); else if (!isGoingOver()) compareOffice();
+};
+
 const refreshOnce = async (isForced) => {
+  const switched = await doneSwitch();
   const answer = await ask('wards');
   const isFirst = office.receipts < 0;
-  office.down = answer?.status === 200 ? '' : explainedAnswer(answer);
+  office.down = answer?.status === 200 ? '' : isGoingOver() ? WAITS_FOR_NEW : explainedAnswer(answer);
   if (!office.down) {
-    const {receipts, wards} = answer.says;
     office.at = Date.now();
-    const isChanged = answer.text !== office.text;
-    if (isChanged) {
-      office.reads.clear();
-      Object.assign(office, {receipts, text: answer.text, wards});
-      compareOffice();
-    }
+    const isChanged = switched !== null || answer.text !== office.text;
+    if (isChanged) takeWards(answer, switched);
     if (isFirst) route(); else if (isChanged || isForced) await draw();
   }
   drawHealth();

@@ -94,17 +94,18 @@ const wishEntry = (it) => made('fieldset', {}, made('legend', {}, `${senderOf(it
 
 const isFileName = (name) => name.length > 0 && name.length < 200 && !/^[-.]|[/\u0000-\u001f]/.test(name);
 
-const nameField = (name) => {
-  const field = made('input', {type: 'text', autocomplete: 'off', spellcheck: false, className: 'long', defaultValue: name, data: {key: 'mended-name'}});
-  field.addEventListener('input', () => storeWishes({name: field.value.trim()}));
+const FILE_NAME_ADVICE = 'Enter a name for the file of the new office, such as town-2.db. It has no slash, and doesn\u2019t begin with a hyphen or a dot.';
+
+const nameField = (key, name, storeName) => {
+  const field = made('input', {type: 'text', autocomplete: 'off', spellcheck: false, className: 'long', defaultValue: name, data: {key}});
+  field.addEventListener('input', () => storeName(field.value.trim()));
   return made('label', {}, 'File of the new office ', field);
 };
 
 // Makes the new office. This one is only read.
 const makeMended = async () => {
   const {name, list} = wishes();
-  if (!isFileName(name)) return tell('refused', 'No office was made.',
-    'Enter a name for the file of the new office, such as town-2.db. It has no slash, and doesn\u2019t begin with a hyphen or a dot.');
+  if (!isFileName(name)) return tell('refused', 'No office was made.', FILE_NAME_ADVICE);
   if (list.some((it) => it.isReplaced && !it.rest.trim())) return tell('refused', 'No office was made.', 'Enter the order that takes the place of the other one.');
   const isSure = await askFirst(`Make the new office ${name}?`, 'Make it', made('ul', {}, ...list.map((it) => made('li', {}, ...wishText(it)))),
     'This office isn\u2019t changed. The report says what else the new office lacks: read it before you do anything with the new office.');
@@ -114,8 +115,10 @@ const makeMended = async () => {
 };
 
 // Stores what the program printed about a new office, so that it is shown until the officer closes it. The next one needs another name.
-const storeMended = ({words: [, name, ...options]}, {status, output, errors}) => {
-  store('mended', {at: Date.now(), name, options, status, output, errors});
+// `told` is the last report with these options that has the orders which the new office lacks.
+const storeMended = ({words: [kind, name, ...options]}, {status, output, errors}) => {
+  const told = kind === 'mend' || status === 0 ? output : stored('mended')?.told;
+  store('mended', {at: Date.now(), kind, name, options, status, output, errors, told});
   if (status === 0 && wishes().name === name) storeWishes({name: `mended-${timeText()}.db`});
 };
 
@@ -135,22 +138,26 @@ const acceptedSince = (output) => {
   return counts ? office.receipts - counts.reduce((sum, it) => sum + it, 0) : 0;
 };
 
-const sinceWarning = (since) => (since > 0
-  ? warningText(`The new office lacks what was accepted here since it was made: ${many(since, 'order')}. Make it again under another name.`) : null);
-
-const afterMended = () => made('p', {}, 'This office is as it was. Read every line above first. To continue with the new office, stop serve, start it on the new file at the same port, '
-  + 'and give this office no more orders.');
+const sinceWarning = (since) => (since > 0 ? warningText(`The new office lacks what was accepted here since it was made: ${many(since, 'order')}. `,
+  made('b', {}, 'Go over to it'), ` includes ${since === 1 ? 'it' : 'them'}.`) : null);
 
 // A new office may have been made although a fault followed: its log couldn't be merged into its file.
 const madeText = ({status, output}) => (status === 0 ? 'New office' : /^mended: /m.test(output) ? 'New office, with a fault' : 'Not made');
 
-const drawReport = ({name, status, output, errors, at: when}) => {
+// Returns what follows the report of `mend`.
+const afterMended = (report) => {
+  const {status, output, errors} = report;
+  if (status === 0) return [sinceWarning(acceptedSince(output)), ...offerSwitch(report, 'This office is as it was. Read every line above first.')];
+  return [explainedError(errors).fault === 109
+    ? made('p', {}, 'If the reply to this order was lost before, the office may have been made then. Make it again under another name to see its report.') : ''];
+};
+
+const drawReport = (report) => {
+  const {name, output, errors, at: when} = report;
   const text = made('pre', {}, shownName(output + errors));
-  const isLost = status !== 0 && explainedError(errors).fault === 109;
   return [
-    made('p', {className: 'said'}, `${madeText({status, output})}: ${name}, ${clock(when)}`), text,
-    isLost ? made('p', {}, 'If the reply to this order was lost before, the office may have been made then. Make it again under another name to see its report.') : '',
-    status === 0 ? sinceWarning(acceptedSince(output)) : '', status === 0 ? afterMended() : '',
+    made('p', {className: 'said'}, `${isSwitch(report) ? switchedText(report) : madeText(report)}: ${name}, ${clock(when)}`), text,
+    ...(isAwaited(report) && report.sent ? afterLost(report) : isSwitch(report) ? afterSwitch(report) : afterMended(report)),
     made('p', {className: 'acts'}, button('Print report', () => printText(`New office ${name}`, text.cloneNode(true)), {key: 'print-mended'}),
       button('Close report', closeMended, {key: 'close-mended'})),
   ];
@@ -159,7 +166,7 @@ const drawReport = ({name, status, output, errors, at: when}) => {
 const drawWishes = ({name, list}) => [
   made('p', {}, 'A new office is made from the accepted orders of this one, in a file next to it. This office isn\u2019t changed, and tellers can continue. '
     + 'You can put several orders right at once: choose them from the list below.'),
-  ...list.map(wishEntry), made('p', {className: 'row'}, nameField(name)),
+  ...list.map(wishEntry), made('p', {className: 'row'}, nameField('mended-name', name, (changed) => storeWishes({name: changed}))),
   made('p', {className: 'acts'}, button('Make the new office', makeMended, {main: true, key: 'make-mended'}), button('Cancel', forgetWishes, {key: 'forget-wishes'})),
 ];
 

@@ -18,8 +18,8 @@ let wakeUp = () => {};
 const isUnknown = (answer) => !answer || answer.status >= 500;
 const isDone = (answer) => answer?.status === 200 && Number.isInteger(answer.says?.status);
 
-// Orders that change nothing but the file that they make.
-const MAKES_FILE = /^(copy|mend)$/;
+// Orders that make a file. Unless they are done, they change nothing else.
+const MAKES_FILE = /^(copy|mend|switch)$/;
 
 // After these faults an order with an id may or may not have been done. The office does it once for its id, so it keeps that id.
 const OPEN_FAULTS = /(^|: )fault (101|102|103|104|107): /m;
@@ -100,7 +100,10 @@ const replyTo = (order, says) =>
 const bodyOf = ({files, words}) => JSON.stringify({files: files ?? {}, words});
 const isTooLarge = (order) => new TextEncoder().encode(bodyOf(order)).length > MOST_BYTES;
 
-// Sends an order until the office replies. Returns what the program printed, or null if the officer discarded the order.
+// A switch isn't sent again, since the new office may be the one that would get it.
+const isLost = ({words}, answer) => words[0] === 'switch' && isUnknown(answer);
+
+// Sends an order until the office replies. Returns what the program printed, or null if the officer discarded the order, or a switch has no reply.
 const sendAsLong = async (order) => {
   const body = bodyOf(order);
   for (let turn = 0; !order.given; turn += 1) {
@@ -108,6 +111,7 @@ const sendAsLong = async (order) => {
     const answer = isOther() ? null : await ask('orders', body);
     at('unsent').hidden = true;
     if (isDone(answer) && !leavesOpen(order, answer.says)) return replyTo(order, answer.says);
+    if (isLost(order, answer)) { order.open = true; return null; }
     const [why, seconds] = whyUnsent(order, answer, turn);
     showUnsent(order, why, seconds === 0);
     await waitFor(seconds || LONG);
@@ -131,15 +135,17 @@ const finish = async (order) => {
   document.body.classList.add('busy');
   const printed = await sendAsLong(order);
   unstore(PENDING + order.key);
+  if (!printed && !order.open) forgetSwitch();
   if (printed) {
     logged(order, printed);
-    if (order.words[0] === 'mend') storeMended(order, printed);
+    if (/^(mend|switch)$/.test(order.words[0])) storeMended(order, printed);
     if (order.words[0] === 'copy' && printed.status === 0) store('copy', {at: Date.now(), name: order.words[1]});
   }
   await refresh(true);
   current = null;
   document.body.classList.remove('busy');
-  if (printed) showResult(order, printed);
+  if (order.words[0] === 'switch' && !printed?.status) tellSwitch();
+  else if (printed) showResult(order, printed);
   return printed;
 };
 
@@ -160,6 +166,7 @@ const order = async (title, words, files = {}) => {
     return null;
   }
   store(PENDING + key, sent);
+  if (sent.words[0] === 'switch') awaitSwitch(sent);
   return finish(sent);
 };
 
@@ -173,10 +180,10 @@ const orderOnce = async (title, words, about) => {
   return printed?.status === 1 && explainedError(printed.errors).refusal === 2 ? sent(newId()) : printed;
 };
 
-// Sends the orders again, each with its id, that had no reply when the page was closed or reloaded.
+// Sends the orders again, each with its id, that had no reply when the page was closed or reloaded. A switch isn't sent again.
 const resume = async () => {
   if (isOther()) return;
-  for (const each of pendingOrders()) await finish({...each, open: true});
+  for (const each of pendingOrders()) await finish({...each, open: true, given: each.words[0] === 'switch'});
 };
 
 const isAccepted = (printed) => printed?.status === 0;
