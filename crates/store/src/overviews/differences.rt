@@ -213,8 +213,8 @@ impl<S: Alter> Store<S> {
 
     /// Returns the batch with the given number, if there is one, and whether its keyings differ. Also returns the
     /// numbers of the papers on which keyings of its current round differ, ordered by paper, and a shift between two of
-    /// them, if there is one; both even if two of three keyings are equal. Changes nothing, and doesn't add to the states that a stop may leave behind. Returns
-    /// `Memory` or `Store` if a row can't be read.
+    /// them, if there is one; both even if two of three keyings are equal. Changes nothing, and doesn't add to the
+    /// states that a stop may leave behind. Returns `Memory` or `Store` if a row can't be read.
     pub fn load_differences(&mut self, batch: u32) -> Result<Option<Differences>, Fault>
         ensures { Loads S.Store self.old self.new result (λ s found. option_map differences_view found ≡ differences_at s batch) }
     {
