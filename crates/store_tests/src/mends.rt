@@ -112,6 +112,16 @@ mended: 7 orders kept, 0 replaced, 4 left out
         &[],
         (3, "", "fault 105: wrong database\n"),
     ),
+    (
+        &["DB", "mend", "NEW", "--with", ""],
+        (
+            1,
+            "",
+            "not mended: each --with is an order that is sent, as a line of a script, and that names no file\n",
+        ),
+        &[],
+        (3, "", "fault 105: wrong database\n"),
+    ),
 ];
 
 /// Mends the office of the evening, which must stay unchanged, and checks what is printed and what the new file contains.
