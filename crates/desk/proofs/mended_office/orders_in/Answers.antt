@@ -11,8 +11,8 @@ pub returns-in_default-clause-err : goal.returns-in_default-clause-err
 returns-in_default-clause-err c = inr (inr (Office Memory, refl))
 
 -- the orders are those of the script that was made from the lines
-pub returns-in-Ok-Some-clause-ok : goal.returns-in-Ok-Some-clause-ok
-returns-in-Ok-Some-clause-ok c =
+pub returns-in-Ok-Some-then-clause-ok : goal.returns-in-Ok-Some-then-clause-ok
+returns-in-Ok-Some-then-clause-ok c =
     let script = rw c.as_str.ensures.value at (rw c.in-Ok-Some.field-0-is at c.in-Ok-Some.ensures) in
     subst (λ (text : Text). IsScriptOf text c.in-Ok-Some.orders.items) c.in-Ok.ensures script
 

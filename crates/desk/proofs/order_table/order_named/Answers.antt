@@ -9,7 +9,6 @@ returns-in_err-command_named-in-None-clause-unknown c = λ unknown.
     let d = c.in_default in
     let none : is_question_name c.args.name.now ≡ false = c.in-None.ensures.none refl in
     let no_command : is_command_name c.args.name.now ≡ false = search rules in
-    let last = (d.not-journal, (d.not-replay, (d.not-copy, (d.not-mend, (d.not-switch, (d.not-codes, tt)))))) in
     no_order c.args.name.now (
       d.not-init,
       (
@@ -34,7 +33,10 @@ returns-in_err-command_named-in-None-clause-unknown c = λ unknown.
                           d.not-sheet,
                           (
                             d.not-result,
-                            (d.not-ballots, (d.not-page, (d.not-table, (d.not-index, (d.not-serve, (d.not-forms, last)))))),
+                            (
+                              d.not-ballots,
+                              (d.not-page, (d.not-table, (d.not-index, (d.not-serve, (d.not-forms, (d.not-journal, (d.not-replay, (d.not-copy, (d.not-mend, (d.not-switch, (d.not-codes, tt))))))))))),
+                            ),
                           ),
                         ),
                       ),
