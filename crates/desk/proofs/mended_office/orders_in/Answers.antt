@@ -10,11 +10,5 @@ use Rattle.desk.proofs.mended_office.orders_in.Goals as goal
 pub returns-in_default-clause-err : goal.returns-in_default-clause-err
 returns-in_default-clause-err c = inr (inr (Office Memory, refl))
 
--- the orders are those of the script that was made from the lines
-pub returns-in-Ok-Some-then-clause-ok : goal.returns-in-Ok-Some-then-clause-ok
-returns-in-Ok-Some-then-clause-ok c =
-    let script = rw c.as_str.ensures.value at (rw c.in-Ok-Some.field-0-is at c.in-Ok-Some.ensures) in
-    subst (λ (text : Text). IsScriptOf text c.in-Ok-Some.orders.items) c.in-Ok.ensures script
-
 pub returns-clause-err : goal.returns-clause-err
 returns-clause-err c = inr (inr (Office Memory, refl))
