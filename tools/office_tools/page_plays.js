@@ -658,7 +658,7 @@ Object.assign(CONSOLE_PLAYS, {
     const gaps = [];
     const [window, office] = await goingOver(page, gaps, [REPORT]);
     office.receipts.push(LATER);
-    await window.pass(3);
+    await window.pass(30);
     window.sees({mending: /since it was made: 1 order\. Go over to it includes it/});
     await window.push('go-over');
     const asked = /judge 13 6 accept:,1Left out: 4:v2.*nothing they sent is lost.*isn\u2019t served any more/;
@@ -671,15 +671,15 @@ Object.assign(CONSOLE_PLAYS, {
     assert.equal(switched, made.replace('mend', 'switch').replace('town-5.db', 'town-5-2.db'));
     window.sees({result: /^Going over to town-5-2\.db/, health: /waiting for the new office/});
     // The old office still answers, and then the new one.
-    await window.pass(3);
+    await window.pass(30);
     window.sees({result: /^Going over/, mending: /^Put right in a new officeGoing over: town-5-2\.db/});
     office.receipts = NEW_RECEIPTS;
-    await window.pass(3);
+    await window.pass(30);
     window.sees({result: /^The office is now town-5-2\.db\.What belonged .* discarded: the time of the last copy, /, 'other hidden': true});
     window.sees({mending: /The office is now: town-5-2\.db/, report: REPORT, health: /^Updated/});
     assert.ok(!window.has('go-over') && !window.storage.getItem('console copy'));
     office.receipts = NEW_RECEIPTS.slice(0, 2);
-    await window.pass(3);
+    await window.pass(30);
     window.sees({'other hidden': false});
   },
   'a switch that fails or has no reply changes nothing, and isn\u2019t sent again': async (page) => {

@@ -202,6 +202,13 @@ impl<'a> Localhost<'a> {
         }
     }
 
+    /// Prints which office is served now, if it took the place of one that was served, and no other has taken its own.
+    fn tell_if_successor(&self, is_moved: bool) {
+        if self.place.is_successor && !is_moved {
+            tell_serving(self.place.rt, self.place.path);
+        }
+    }
+
     /// Removes the socket next to the database, and closes the streams that were held open.
     fn clear(&mut self) {
         if let Some(socket) = self.socket.take() {
@@ -238,11 +245,12 @@ impl<'a> Host for Localhost<'a> {
         }
         let orders = self.listen_for_orders();
         let opened = open_at(self.place, port, orders);
-        if opened.is_err() {
-            self.clear();
-            self.place.handover.close();
-        } else if self.place.is_successor {
-            tell_serving(self.place.rt, self.place.path);
+        match &opened {
+            Ok(opened) => self.tell_if_successor(opened.served_file.is_moved.get()),
+            Err(_) => {
+                self.clear();
+                self.place.handover.close();
+            }
         }
         opened
     }

@@ -24,6 +24,7 @@ use office::Office;
 use sqlite::{Alter, Connection, FileStore, MemStore, Wary};
 use sqlite_disk::Disk;
 use std::alloc::{AllocError, Global};
+use std::io::ErrorKind;
 use store::Fault;
 use streams::Sink;
 
@@ -42,6 +43,9 @@ fn why_not_moved(old: OldOffice<'_>, asked: &MendOrder<'_>) -> Option<Failure> {
     match has_note(old.rt, old.database) {
         Ok(false) => None,
         Ok(true) => Some(Failure::CopyTaken),
+        Err(error) if error.kind() == ErrorKind::OutOfMemory => {
+            Some(Failure::Office(Fault::Memory))
+        }
         Err(_) => Some(Failure::CopyFailed),
     }
 }

@@ -28,12 +28,10 @@ impl LockHolder {
     }
 }
 
-/// Prints which office took the place of the one in the database at a path, if a note says so.
-pub fn tell_if_moved(rt: &HostRuntime, path: &str) {
-    let Ok(database) = fs::canonicalize(rt, path) else {
-        return;
-    };
-    if let Ok(Some(new)) = moved_to(rt, database.as_str()) {
+/// Prints which office took the place of the one in a database, if a note says so. The database must be locked, so that this doesn't
+/// change before an order is performed on it.
+pub fn tell_if_moved(rt: &HostRuntime, database: &str) {
+    if let Ok(Some(new)) = moved_to(rt, database) {
         let mut stderr = rt.stderr();
         let _ = writeln!(stderr, "note: {new} took the place of this office");
     }

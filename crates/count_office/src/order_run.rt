@@ -65,6 +65,7 @@ fn open_and_perform<O: Sink, E: Sink>(
                 drop(conn);
                 return Ok(refuse_log(rt, place.path, err));
             }
+            tell_if_moved(rt, place.found.database());
             let mut host = Localhost::at(place);
             let (status, conn) = dispatch_order(place, &mut host, order, conn, out, err);
             if status != 0 {
@@ -266,7 +267,6 @@ fn perform_with_retries<O: Sink, E: Sink>(request: OrderRun<'_>, out: &mut O, er
 {
     let OrderRun { rt, path, .. } = request;
     warn_if_open_to_others(rt, path);
-    tell_if_moved(rt, path);
     let mut brought = None;
     let mut holder = LockHolder::Order;
     for pauses in 0..=PAUSES {
@@ -284,12 +284,15 @@ fn perform_with_retries<O: Sink, E: Sink>(request: OrderRun<'_>, out: &mut O, er
     status
 }
 
-/// Returns the path of the office that took the place of the one at a path.
-fn successor_of(rt: &HostRuntime, path: &str) -> io::Result<String> {
-    let database = fs::canonicalize(rt, path)?;
-    match moved_to(rt, database.as_str())? {
-        Some(new) => Ok(new),
-        None => Err(ErrorKind::NotFound.into()),
+/// Returns the path of the office that took the place of the one at a path, or the failure if no note says so.
+fn successor_of(rt: &HostRuntime, path: &str) -> Result<String, Failure> {
+    let found = fs::canonicalize(rt, path).and_then(|database| moved_to(rt, database.as_str()));
+    match found {
+        Ok(Some(new)) => Ok(new),
+        Err(error) if error.kind() == ErrorKind::OutOfMemory => {
+            Err(Failure::Office(Fault::Memory))
+        }
+        _ => Err(Failure::FileGone),
     }
 }
 
@@ -301,15 +304,18 @@ pub fn perform_and_follow<O: Sink, E: Sink>(request: OrderRun<'_>, out: &mut O, 
 {
     let OrderRun { rt, handover, .. } = request;
     let mut status = perform_with_retries(request, out, err);
-    let Ok(mut path) = String::from_str(rt.alloc(), request.path) else {
-        return tell_failure(Failure::Office(Fault::Memory), err);
-    };
+    let mut path = None;
     for _ in 0..u64::MAX {
         if !handover.has_moved.replace(false) {
             return status;
         }
-        let Ok(new) = successor_of(rt, path.as_str()) else {
-            return tell_failure(Failure::FileGone, err);
+        let last = match &path {
+            Some(path) => String::as_str(path),
+            None => request.path,
+        };
+        let new = match successor_of(rt, last) {
+            Ok(new) => new,
+            Err(failure) => return tell_failure(failure, err),
         };
         let next = OrderRun {
             path: new.as_str(),
@@ -317,7 +323,7 @@ pub fn perform_and_follow<O: Sink, E: Sink>(request: OrderRun<'_>, out: &mut O, 
             ..request
         };
         status = perform_with_retries(next, out, err);
-        path = new;
+        path = Some(new);
     }
     status
 }

@@ -61,7 +61,7 @@ addEventListener('hashchange', route);
 addEventListener('afterprint', endPrinting);
 document.addEventListener('visibilitychange', () => { if (!document.hidden) refresh(); });
 addEventListener('storage', ({key}) => { if (key?.startsWith(`${FRONT}expected`) || key === `${FRONT}copy`) draw(); });
-addEventListener('storage', ({key}) => { if (key === `${FRONT}mended`) readAgain(); });
+addEventListener('storage', ({key}) => { if (key === `${FRONT}mended` && stored('mended')?.isServed) readAgain(); });
 addEventListener('beforeunload', (event) => { if (current && !stores) event.preventDefault(); });
 addEventListener('pagehide', () => document.body.replaceChildren());
 addEventListener('pageshow', ({persisted}) => { if (persisted) location.reload(); });

@@ -135,7 +135,6 @@ const finish = async (order) => {
   document.body.classList.add('busy');
   const printed = await sendAsLong(order);
   unstore(PENDING + order.key);
-  if (!printed && !order.open) forgetSwitch();
   if (printed) {
     logged(order, printed);
     if (/^(mend|switch)$/.test(order.words[0])) storeMended(order, printed);
@@ -144,7 +143,7 @@ const finish = async (order) => {
   await refresh(true);
   current = null;
   document.body.classList.remove('busy');
-  if (order.words[0] === 'switch' && !printed?.status) tellSwitch();
+  if (order.words[0] === 'switch' && !printed?.status) tellSwitch(order);
   else if (printed) showResult(order, printed);
   return printed;
 };

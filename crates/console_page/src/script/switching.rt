@@ -16,11 +16,6 @@ const isGoingOver = () => isSwitched(stored('mended')) && isAwaited(stored('mend
 
 const awaitSwitch = ({words: [, sent]}) => store('mended', {...stored('mended'), sent, next: undefined});
 
-// Forgets a switch that the office didn't accept.
-const forgetSwitch = () => {
-  if (stored('mended')?.sent) store('mended', {...stored('mended'), sent: undefined});
-};
-
 // Returns whether these receipts are those of the new office. It has as many as its report says, or more, and lacks an order that the report
 // names. The old office has all of these orders.
 const isOfNew = (told, receipts) => {
@@ -38,9 +33,9 @@ const doneSwitch = async () => {
   return says && isOfNew(report.told ?? '', says.receipts) ? report : null;
 };
 
-// Continues with the new office, as the officer asked for. The report of the switch is kept.
+// Continues with the new office, as the officer asked for. The report is kept. The switch itself may still be stored as an order.
 const acceptSwitch = (report) => {
-  const [names, list] = [unfitting(lastSeen()).filter((it) => it !== 'mended'), dropped];
+  const [names, list] = [unfitting(lastSeen()).filter((it) => it !== 'mended' && stored(it).words?.[0] !== 'switch'), dropped];
   const texts = discardedTexts(names, list);
   const name = report.sent ?? report.name;
   acceptOffice(names, list);
@@ -55,8 +50,10 @@ const readAgain = () => {
   refresh(true);
 };
 
-// Says that the new office is awaited, or that the outcome isn't known, unless the new office was seen meanwhile.
-const tellSwitch = () => {
+// Says that the new office is awaited, or that the outcome isn't known, unless the new office was seen meanwhile. If the officer discarded
+// the switch, which wasn't accepted, it is forgotten.
+const tellSwitch = ({open, given}) => {
+  if (given && !open && stored('mended')?.sent) store('mended', {...stored('mended'), sent: undefined});
   const report = stored('mended');
   drawMending();
   if (!isAwaited(report)) return undefined;

@@ -39,8 +39,8 @@ returns-in_default-clause-goes_on g c =
     (served_office went.new.office (memory_entry went.new.kept)) c.loop-round.invariant.goes_on
     went.ensures.goes_on
 
-pub returns-then-clause-goes_on : goal.returns-then-clause-goes_on
-returns-then-clause-goes_on g c =
+pub returns-then-has_moved-clause-goes_on : goal.returns-then-has_moved-clause-goes_on
+returns-then-has_moved-clause-goes_on g c =
     let known = g.D.Network.known in
     let went = c.service_ready in
     serves_then (settings_in g.A.ServedFile.whole c.args.serving.server_settings) (stream_of g.D.Stream.Stream.held g.D.Stream.Stream.taken g.D.Stream.Stream.failed)
