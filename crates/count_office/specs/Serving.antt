@@ -208,8 +208,7 @@ ServesOrder Tells Quiet status serving codes_at file stream state_of before late
 -- the mended list leads, what is kept of both parts of it is as specified. That the database has this state, in which it was made, is a premise.
 abbrev pub MendedIsKept : {L S : Type 0} → Stream L → (Held S → State) → Type 0
 MendedIsKept {L} {S} stream state_of =
-    (changes : Changes) → IsMended changes (mended changes)
-    → (Tells : List ℕ → ℕ → ℕ → Type 0) (Quiet : Type 0) (status : ℕ) (AreSettings : ServerSettingsEntry → Type 0) (port : ℕ) (before later : ℕ → NetworkEntry L) (most : Option ℕ)
-    (old new : Held S) (served : IsServed Tells Quiet status AreSettings stream state_of port before later most old new)
-    → HasCleanDisk (state_of new) → (db : Database) → RestsAt db (state_of old) → IsLeftAt (mended changes).state db
-    → KeepsExchanges state_of served.settings (mended changes).sent served.at_network.serves.exchanges served.closed (state_of new)
+    (changes : Changes) → IsMended changes (mended changes) → (db : Database) (conn : Held S) (old new : OfficeValue S) → RestsAt db (state_of conn)
+    → IsLeftAt (mended changes).state db → IsOpenedFrom state_of conn old → (settings : ServerSettingsEntry) (before later : NetworkEntry L) (most : Option ℕ)
+    (ends : Result (Unit {0}) ServeError) (at_network : ServesAtNetwork settings stream state_of before later most old new ends)
+    → HasCleanDisk (state_of new.held) → KeepsExchanges state_of settings (mended changes).sent at_network.serves.exchanges new.closed (state_of new.held)
