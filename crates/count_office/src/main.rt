@@ -284,13 +284,15 @@ fn follow_words<O: Sink, E: Sink>(rt: &HostRuntime, words: &[&str], out: &mut O,
         // Nor does printing slips.
         Ok(Order::Slips { path, address }) => print_slips(rt, path, address, out, err),
         Ok(order) => {
+            let handover = Handover::new();
+            let path = words.first().copied().unwrap_or("");
             let request = OrderRun {
                 rt: &*rt,
-                path: words.first().copied().unwrap_or(""),
+                path,
                 words: &*words,
                 order: &order,
                 is_successor: false,
-                handover: &Handover::new(),
+                handover: &handover,
             };
             perform_and_follow(request, out, err)
         }
