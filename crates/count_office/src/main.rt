@@ -285,7 +285,8 @@ fn follow_words<O: Sink, E: Sink>(rt: &HostRuntime, words: &[&str], out: &mut O,
         Ok(Order::Slips { path, address }) => print_slips(rt, path, address, out, err),
         Ok(order) => {
             let handover = Handover::new();
-            let path = words.first().copied().unwrap_or("");
+            let first = words.first().copied();
+            let path = first.unwrap_or("");
             let request = OrderRun {
                 rt: &*rt,
                 path,
