@@ -89,5 +89,5 @@ module _ {O E : Type 0} (taken : O → Option (List ℕ)) (calls : O → ℕ) (t
     page = told.page;
     cut = told.cut;
     shown = told.shown;
-    is = λ clean was s at. elim told.is [ inl is ↦ inl (is clean was s at) | inr (made, is, same) ↦ inr (made, is clean was s at, same) ];
+    is = λ clean was s at. elim told.is [ inl is ↦ inl (is clean was s at) | inr (made, is, zero, same) ↦ inr (made, is clean was s at, zero, same) ];
   }

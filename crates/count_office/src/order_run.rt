@@ -12,15 +12,16 @@ use crate::notices::{
 use crate::order_client::{OrderReply, Sent, print_reply, send_order};
 use crate::order_files::{OrderFiles, read_order_and_files};
 use crate::path_state::{PathKind, PathState};
+use crate::screen::Screen;
 use crate::{LockedDatabase, close, dispatch_order, is_busy, order_socket, wants_progress};
 use desk::{Failure, Order, ProgressSink, Task, tell_failure};
 use sqlite::{Connection, Wary};
 use std::fs;
-use std::io::{self, ErrorKind};
+use std::io::{self, ErrorKind, IsTerminal};
 use std::time::{Clock, Duration};
 use store::Fault;
 use store::fault::fault_of;
-use streams::Sink;
+use streams::{Counted, Sink};
 
 /// The maximum number of pauses between attempts to perform an order whose file is locked. They add up to ten seconds.
 const PAUSES: u32 = 1000;
@@ -296,6 +297,20 @@ fn successor_of(rt: &HostRuntime, path: &str) -> Result<String, Failure> {
     }
 }
 
+/// Prints a failure to the error output, and returns the status.
+fn tell_unfollowed(rt: &HostRuntime, failure: Failure) -> u8 {
+    tell_failure(failure, &mut Counted::new(rt.stderr()))
+}
+
+/// Performs an order on the database at a path, with outputs of its own, and returns its status.
+fn perform_anew(request: OrderRun<'_>) -> u8 {
+    let (stdout, stderr) = (request.rt.stdout(), request.rt.stderr());
+    let (is_out, is_err) = (stdout.is_terminal(), stderr.is_terminal());
+    let mut out = Screen::new(Counted::new(stdout), is_out);
+    let mut err = Screen::new(Counted::new(stderr), is_err);
+    perform_with_retries(request, &mut out, &mut err)
+}
+
 /// Performs an order on the database at a path, and returns its status. If the order serves an office and a new one takes its place,
 /// serves that one, and so on; the status is that of the last one.
 pub fn perform_and_follow<O: Sink, E: Sink>(request: OrderRun<'_>, out: &mut O, err: &mut E) -> u8
@@ -315,14 +330,14 @@ pub fn perform_and_follow<O: Sink, E: Sink>(request: OrderRun<'_>, out: &mut O, 
         };
         let new = match successor_of(rt, last) {
             Ok(new) => new,
-            Err(failure) => return tell_failure(failure, err),
+            Err(failure) => return tell_unfollowed(rt, failure),
         };
         let next = OrderRun {
             path: new.as_str(),
             is_successor: true,
             ..request
         };
-        status = perform_with_retries(next, out, err);
+        status = perform_anew(next);
         path = Some(new);
     }
     status

@@ -18,4 +18,4 @@ pub returns-in-Err-clause-stays : goal.returns-in-Err-clause-stays
 returns-in-Err-clause-stays g c clean was s at = inl (record { is_open = was; at = at })
 
 pub returns-in-Ok-clause-clean : goal.returns-in-Ok-clause-clean
-returns-in-Ok-clause-clean g c clean = c.mend_served.ensures.reads.clean clean
+returns-in-Ok-clause-clean g c clean = c.mend_served-status.ensures.reads.clean clean
