@@ -285,8 +285,10 @@ fn follow_words<O: Sink, E: Sink>(rt: &HostRuntime, words: &[&str], out: &mut O,
         Ok(Order::Slips { path, address }) => print_slips(rt, path, address, out, err),
         Ok(order) => {
             let handover = Handover::new();
-            let first = words.first().copied();
-            let path = first.unwrap_or("");
+            let path = match words.first() {
+                Some(path) => *path,
+                None => "",
+            };
             let request = OrderRun {
                 rt: &*rt,
                 path,
