@@ -41,18 +41,10 @@ pub struct Localhost<'a> {
 #[derive(Drop)]
 pub struct Handover {
     pub has_moved: Cell<bool>,
-    listeners: Cell<Option<Loopback>>,
+    pub listeners: Cell<Option<Loopback>>,
 }
 
 impl Handover {
-    /// Returns what is left before any office is served.
-    pub fn new() -> Handover {
-        Handover {
-            has_moved: Cell::new(false),
-            listeners: Cell::new(None),
-        }
-    }
-
     /// Returns the listeners on a port at this machine's loopback addresses: those that were left, or new ones. Keeps them open until
     /// they are closed here, if the system has room for other descriptors of them.
     fn listeners_at(&self, rt: &HostRuntime, port: u16) -> io::Result<Loopback> {

@@ -78,6 +78,7 @@ use serving::{Serving, serve};
 use sqlite::{Alter, Connection, ErrorCode, FileStore, Files};
 use sqlite_disk::Disk;
 use std::alloc::Global;
+use std::cell::Cell;
 use std::io::IsTerminal;
 use std::process::ExitCode;
 use std::{env, io};
@@ -284,7 +285,10 @@ fn follow_words<O: Sink, E: Sink>(rt: &HostRuntime, words: &[&str], out: &mut O,
         // Nor does printing slips.
         Ok(Order::Slips { path, address }) => print_slips(rt, path, address, out, err),
         Ok(order) => {
-            let handover = Handover::new();
+            let handover = Handover {
+                has_moved: Cell::new(false),
+                listeners: Cell::new(None),
+            };
             let path = match words.first() {
                 Some(path) => *path,
                 None => "",
@@ -297,7 +301,9 @@ fn follow_words<O: Sink, E: Sink>(rt: &HostRuntime, words: &[&str], out: &mut O,
                 is_successor: false,
                 handover: &handover,
             };
-            perform_and_follow(request, out, err)
+            let status = perform_and_follow(request, out, err);
+            drop(handover);
+            status
         }
         Err(fault) => tell_words(&fault, out, err),
     }
