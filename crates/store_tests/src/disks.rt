@@ -3,7 +3,7 @@
 
 ghost use Rattle.std.specs.Prelude.{⊤};
 
-use super::steps::{Step, StepPrinted, copied, mended, play};
+use super::steps::{Step, StepPrinted, copied, play};
 use super::test_host::{File, TestHost};
 use sqlite::{Alter, Connection, Error, ErrorCode, FileStore, Files, Options};
 use sqlite_disk::{Crash, Disk, Fuse, Memory};
@@ -125,21 +125,5 @@ impl TestHost for Disks {
             }
             Err(_) => Err(Fail::from("the office isn't opened")),
         }
-    }
-
-    fn mend_onto(
-        self,
-        alloc: Global,
-        words: &[&str],
-        onto: Disks,
-    ) -> Result<(StepPrinted, Disks, Disks), Fail> {
-        let (Disks { files }, Disks { files: blank }) = (self, onto);
-        let (Ok(conn), Ok(mut new)) = (opened(alloc, files), opened(alloc, blank)) else {
-            return Err(Fail::from("the files aren't opened"));
-        };
-        let (said, conn) = mended(alloc, conn, words, &mut new)?;
-        let files = conn.into_store().close();
-        let made = new.into_store().close();
-        Ok((said, Disks { files }, Disks { files: made }))
     }
 }

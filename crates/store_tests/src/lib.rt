@@ -38,8 +38,6 @@ mod lists;
 #[cfg(test)]
 mod loads;
 #[cfg(test)]
-mod mends;
-#[cfg(test)]
 mod noise;
 #[cfg(test)]
 mod older;

@@ -6,10 +6,7 @@ use super::clients::{Evening, LimitedWriter, Port, TestNetwork, joined, pages_of
 use super::loads::loads;
 use codes::Codes;
 use desk::perform::perform;
-use desk::{
-    CopyState, Failure, Folder, MendOrder, MendTrial, Order, copy_office, mend_open, order,
-    tell_failure, tell_words,
-};
+use desk::{Failure, Folder, MendOrder, Order, copy_office, order, tell_failure, tell_words};
 use office::{Answer, Office, ReadError, RunOutcome, Work};
 use register::Request;
 use server::{Destination, FileNumbers, ServeError, ServedFile, ServerSettings, serve_connections};
@@ -458,42 +455,6 @@ pub fn copied<S: Alter + Drop, T: Alter + Drop>(
     };
     let (out, err) = (out.text()?, err.text()?);
     Ok(StepPrinted { status, out, err })
-}
-
-/// Makes a new office from the journal of a connection's office, as the words ask, on another connection. The status must
-/// say whether it was made.
-pub fn mended<S: Alter + Drop, N: Alter + Drop>(
-    alloc: Global,
-    conn: Connection<S>,
-    words: &[&str],
-    new: &mut Connection<N>,
-) -> Result<(StepPrinted, Connection<S>), Fail> {
-    let Ok(Order::Mend(asked)) = order(alloc, words) else {
-        return Err(Fail::from("no order to mend is parsed"));
-    };
-    let journal = Connection::open_in_memory(alloc)?;
-    let mended = Connection::open_in_memory(alloc)?;
-    let Ok(mut office) = Office::open_from(alloc, conn) else {
-        return Err(Fail::from("no office is opened"));
-    };
-    let mut out = LimitedWriter::new(alloc, usize::MAX);
-    let mut err = LimitedWriter::new(alloc, usize::MAX);
-    let (status, state, tried) = {
-        let trial = MendTrial { journal, mended };
-        let mut out = Counted::new(&mut out);
-        let mut err = Counted::new(&mut err);
-        mend_open(alloc, &mut office, &asked, trial, new, &mut out, &mut err)
-    };
-    let MendTrial {
-        journal: _,
-        mended: _,
-    } = tried;
-    let conn = office.into_connection();
-    if matches!(state, CopyState::Whole) != (status == 0) {
-        return Err(Fail::from("the status says otherwise"));
-    }
-    let (out, err) = (out.text()?, err.text()?);
-    Ok((StepPrinted { status, out, err }, conn))
 }
 
 fn done<S: Alter + Drop>(

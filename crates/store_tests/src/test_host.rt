@@ -44,14 +44,6 @@ pub trait TestHost: Sized {
         alloc: Global,
         onto: Self,
     ) -> Result<(Option<StepPrinted>, Self, Self), Fail>;
-
-    /// Makes a new office in other files from the journal of the office, as the words ask.
-    fn mend_onto(
-        self,
-        alloc: Global,
-        words: &[&str],
-        onto: Self,
-    ) -> Result<(StepPrinted, Self, Self), Fail>;
 }
 
 fn sorted(alloc: Global, rows: &str) -> Result<Vec<&str>, Fail> {
