@@ -20,7 +20,7 @@ PARAMETERS, LINES, CHARACTERS = 5, 40, 200
 LARGE = {
     "checker": "flaw_remedy", "count": "figured lost_from", "sheet": "style write_page write_row", "tables": "select_text",
     "desk": "mend_open replay run send_all run_script run_steps tell_numbered",
-    "count_office": "fill fill_mended fill_open finish finish_mended mend_served dispatch_order perform_locked", "store_tests": "are_refused give",
+    "count_office": "follow_words fill fill_mended fill_open finish finish_mended mend_served dispatch_order perform_locked", "store_tests": "are_refused give",
 }
 # Two characters too long since something in it was renamed.
 LONG = {"wire": "proofs/answering/answer_reading/Answers.antt:35"}
