@@ -17,16 +17,13 @@ import threading
 import time
 from pathlib import Path
 
-HERE = "127.0.0.1"
-PATIENCE = 60
+HERE, SECONDS = "127.0.0.1", 60
 PAGE = b"HTTP/1.1 200 OK\r\nContent-Type: text/html\r\nConnection: close\r\n\r\n<!DOCTYPE html><title>elsewhere</title><body>"
 
-def request(target, *headers, body="", method=""):
-    """Returns a request; with a body it is a POST, unless another method is named."""
-    lines = [f"{method or ('POST' if body else 'GET')} {target} HTTP/1.1", *headers]
-    if body:
-        lines.append(f"Content-Length: {len(body.encode())}")
-    return "\r\n".join([*lines, "", body]).encode()
+def request(target, *headers, body=""):
+    """Returns a request; with a body it is a POST."""
+    length = [f"Content-Length: {len(body.encode())}"] if body else []
+    return "\r\n".join([f"{'POST' if body else 'GET'} {target} HTTP/1.1", *headers, *length, "", body]).encode()
 
 def basic(name, code):
     return "Basic " + base64.b64encode(f"{name}:{code}".encode()).decode()
@@ -47,7 +44,7 @@ def answer(line, sends, shut=False):
             line.shutdown(socket.SHUT_WR)
     return received(line)
 
-def ask(port, sends, host=HERE, seconds=PATIENCE, **how):
+def ask(port, sends, host=HERE, seconds=SECONDS, **how):
     return answer(socket.create_connection((host, port), timeout=seconds), sends, **how)
 
 def status(text):
@@ -79,7 +76,7 @@ class Crowd(threading.Thread):
             await loop.sock_sendall(line, self.sends)
             self.came += 1
             while not self.goes and (not self.reads or await loop.sock_recv(line, 65536)):
-                await asyncio.sleep(0 if self.reads else PATIENCE)
+                await asyncio.sleep(0 if self.reads else SECONDS)
 
     async def stay(self, number):
         # Of those that go, five hundred come a second: more would ask than the office can answer.
@@ -141,7 +138,6 @@ class Proxy(socketserver.ThreadingTCPServer):
 
 ROOT = Path(__file__).resolve().parents[2]
 TOWN, LOG, SCRIPT = "town.db", "town.db-wal", "orders.txt"
-SECONDS = 60
 # The largest number of connections that `serve` accepts. Without this word there is no limit; programs up to 1.6.0 want it.
 CONNECTIONS = 1000000
 STORE, NO_OFFICE = "fault 102: store\n", "fault 105: wrong database\n"
@@ -260,8 +256,7 @@ class Office:
 
     def do(self, *words):
         printed = self.run(*words)
-        if printed.status:
-            raise Wrong(f"{' '.join(map(str, words))}: {printed}")
+        wrong_if(printed.status, f"{' '.join(map(str, words))}: {printed}")
         return printed.out
 
     def write(self, name, lines):
@@ -299,16 +294,15 @@ class Office:
 
         An `init` that was stopped may leave a file without the first byte of a database's.
         """
-        with tempfile.TemporaryDirectory() as folder:
-            with contextlib.closing(sqlite3.connect(self.copied(folder, town).folder / TOWN)) as base:
-                try:
-                    whole = base.execute("PRAGMA integrity_check").fetchall()
-                    tables = base.execute("SELECT name FROM sqlite_schema WHERE type = 'table' ORDER BY name").fetchall()
-                    found = {name: sorted(base.execute(f"SELECT * FROM {name}").fetchall()) for (name,) in tables}
-                except sqlite3.DatabaseError as error:
-                    if "file is not a database" in str(error):
-                        return None
-                    raise Wrong(f"SQLite: {error}") from error
+        with temporary_folder() as folder, contextlib.closing(sqlite3.connect(self.copied(folder, town).folder / TOWN)) as base:
+            try:
+                whole = base.execute("PRAGMA integrity_check").fetchall()
+                tables = base.execute("SELECT name FROM sqlite_schema WHERE type = 'table' ORDER BY name").fetchall()
+                found = {name: sorted(base.execute(f"SELECT * FROM {name}").fetchall()) for (name,) in tables}
+            except sqlite3.DatabaseError as error:
+                if "file is not a database" in str(error):
+                    return None
+                raise Wrong(f"SQLite: {error}") from error
         wrong_if(whole != [("ok",)], f"the file isn't whole: {whole}")
         return found or None
 
@@ -322,11 +316,11 @@ class Serving(contextlib.AbstractContextManager):
     def __exit__(self, *_):
         self.kill()
 
-    def connect(self, seconds=SECONDS):
+    def connect(self):
         """Connects to it as soon as it listens. Returns None if it ended before."""
         while self.process.poll() is None:
             try:
-                return socket.create_connection((HERE, self.port), timeout=seconds)
+                return socket.create_connection((HERE, self.port), timeout=SECONDS)
             except ConnectionRefusedError:
                 time.sleep(0.001)
         return None
@@ -343,12 +337,6 @@ class Serving(contextlib.AbstractContextManager):
 
     def ended(self, seconds=SECONDS):
         return ended(self.process, seconds)
-
-    def killed_after(self, seconds=None):
-        """Begins to wait for so many seconds, and kills it then; without a number it does nothing."""
-        killer = threading.Timer(seconds or 0, self.process.kill if seconds is not None else bool)
-        killer.start()
-        return killer
 
     def kill(self):
         if self.process.stdout.closed:

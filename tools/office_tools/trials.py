@@ -122,11 +122,11 @@ class Trial:
         return (differs, place) if is_met else None
 
     def runs(self, act, ways):
-        """Stops the order in each way, which has a name and words. Returns [how often it was stopped, how often not, what was found]."""
+        """Stops the order in each way, which has a name. Returns [how often it was stopped, how often not, what was found]."""
         found = []
-        for which, *words in ways:
+        for which, how in ways:
             try:
-                found += filter(None, [act(self, *words)])
+                found += filter(None, [act(self, **how)])
             except Wrong as error:
                 raise Wrong(f"{self.order.name}: {which}: {error}") from error
         places, stopped = [place for _, place in found], sum(is_stopped for is_stopped, _ in found)
@@ -155,7 +155,3 @@ def side_by_side(act, items):
             yield from pool.map(act, items)
         finally:
             pool.shutdown(wait=False, cancel_futures=True)
-
-def added(totals, counts):
-    """Adds a row of numbers to another."""
-    return [total + count for total, count in zip(totals, counts)]

@@ -11,7 +11,7 @@ from concurrent.futures import ThreadPoolExecutor
 from office_tools.election import COPY, COPY_LOG, FILE, election, ward_orders
 from office_tools.office import (
     LOG, SCRIPT, STORE, TOWN, Office, Table, Wrong, ended, is_whole, needs, request, temporary_folder, timed, wrong_if)
-from office_tools.trials import CALL, NOT_WRITTEN, ON_FILES, RESULTS, added, side_by_side, trials
+from office_tools.trials import CALL, NOT_WRITTEN, ON_FILES, RESULTS, Trial, side_by_side, trials
 
 # The election whose orders are killed has 99 valid papers and a doubtful one.
 COPIES = 11
@@ -36,20 +36,17 @@ def try_killed(runs=100, seed=7):
     def killings(trial):
         chance = random.Random(f"{seed} {trial.number}")
         longest = 1.2 * statistics.median(timed(trial.order.done, trial.office.copied(trial.folder / "timed"))[1] for _ in range(3))
-        return (("killed", chance.uniform(0, longest)) for _ in range(runs))
+        return (("killed", {"wait": chance.uniform(0, longest)}) for _ in range(runs))
 
     with temporary_folder() as folder:
         tried = trials(folder, orders=election(COPIES))
         print_stops(f"A kill ({runs} runs each, seed {seed})", [("SIGKILL", "an order", killings)], tried, killed)
 
-def refused(trial, how):
-    return trial.refused(**how)
-
 def print_stops(title, kinds, tried, act):
     """Prints the table of how trials were stopped: the kinds are a way, what of, and a function that yields the stops of a trial."""
-    totals, table = [[0] * 5 for _ in kinds], Table(f"{title}, {len(tried)} orders", "of", "runs", "stopped", "not", *RESULTS)
-    for found in side_by_side(lambda trial: [trial.runs(act, stops(trial)) for *_, stops in kinds], tried):
-        totals = [added(total, counts) for total, counts in zip(totals, found)]
+    table = Table(f"{title}, {len(tried)} orders", "of", "runs", "stopped", "not", *RESULTS)
+    found = side_by_side(lambda trial: [trial.runs(act, stops(trial)) for *_, stops in kinds], tried)
+    totals = [[sum(column) for column in zip(*rows)] for rows in zip(*found)]
     for (way, of, _), counts in zip(kinds, totals):
         if any(counts):
             table.row(way, of, sum(counts[:2]), *counts)
@@ -80,7 +77,7 @@ def try_refused_growths(step=1, order=""):
     needs("strace")
     with temporary_folder() as folder:
         kinds = [("a growth is refused", "memory", functools.partial(growths, step=step))]
-        print_stops(f"Memory, one in {step}", kinds, trials(folder, order), refused)
+        print_stops(f"Memory, one in {step}", kinds, trials(folder, order), Trial.refused)
 
 FAULT, GONE_FILE, READ = "fault 102: store", "fault 113: file gone or replaced", r"file fault 8 at record \d+: read failed"
 COPIED, EVERY = [COPY, COPY_LOG], [TOWN, LOG, COPY, COPY_LOG, "."]
@@ -125,7 +122,7 @@ def try_failing_disk(step=1, order=""):
     kinds = [(way, what, functools.partial(failures, way=way, names=names, step=step)) for way, what, names in KINDS]
     with temporary_folder() as folder:
         tried = [trial for trial in trials(folder, order) if len(trial.states) > 1]
-        print_stops(f"The disk, one call in {step}", kinds, tried, refused)
+        print_stops(f"The disk, one call in {step}", kinds, tried, Trial.refused)
 
 CLERKS, PAPERS, WARDS = range(1, 21), 2, range(11, 21)
 KEYING = '{"id":"k","round":1,"papers":["1,2,","D"]}'
@@ -138,8 +135,7 @@ class Crowd:
         here = self.office.copied(self.here)
         self.seconds, self.answered = self.served(here)
         self.before, self.after = set(rows_of(self.office)), set(rows_of(here))
-        if len(self.answered) < len(CLERKS) + len(WARDS):
-            raise Wrong(f"of twenty clerks at once and ten orders these are answered: {self.answered}")
+        wrong_if(len(self.answered) < len(CLERKS) + len(WARDS), f"of twenty clerks at once and ten orders are answered: {self.answered}")
 
     def order(self, here):
         """Adds ten wards, one after the other, and returns what was answered, by ward. The others must print a fault of the store."""
@@ -150,14 +146,16 @@ class Crowd:
 
     def served(self, here, wait=None):
         """Returns (seconds of clerks and of orders, whose answers) of a `serve` that is killed after some seconds, or at the end."""
-        with here.serve().wait() as serving, ThreadPoolExecutor(len(CLERKS) + 1) as pool:
+        with here.serve().wait() as serving, ThreadPoolExecutor(len(CLERKS) + 2) as pool:
             def key_all():
                 asked = pool.map(lambda n: serving.ask(request(f"/clerks/{n}/batches/{n}/keying", body=KEYING)), CLERKS)
                 return {f"clerk {n}": text for n, text in zip(CLERKS, asked) if is_whole(text)}
 
-            killer, orders = serving.killed_after(wait), pool.submit(timed, self.order, here)
-            (keyed, keying), (ordered, ordering) = timed(key_all), orders.result()
-            killer.join()
+            keyings, orders = pool.submit(timed, key_all), pool.submit(timed, self.order, here)
+            if wait is not None:
+                time.sleep(wait)
+                serving.process.kill()
+            (keyed, keying), (ordered, ordering) = keyings.result(), orders.result()
         return (keying, ordering), keyed | ordered
 
     def kept(self, here):
@@ -177,8 +175,7 @@ class Crowd:
         here = self.office.copied(self.here)
         _, answered = self.served(here, chance.uniform(0, 1.2 * chance.choice(self.seconds)))
         kept = self.kept(here)
-        if lost := set(answered) - kept:
-            raise Wrong(f"what {sorted(lost)} sent was answered, and is lost")
+        wrong_if(lost := set(answered) - kept, f"what {lost} sent was answered, and is lost")
         _, again = self.served(here)
         if again != self.answered or set(rows_of(here)) != self.after:
             raise Wrong("twenty clerks who key again, and the officer, get something else, or leave other rows")
