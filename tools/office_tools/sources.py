@@ -6,26 +6,15 @@ from pathlib import Path
 from office_tools.office import ROOT
 
 NOISE = re.compile(r'//[^\n]*|b?"(?:\\.|[^"\\])*"|b?\'(?:\\.[^\'\n]*|[^\'\\\n])\'', re.S)
-TOKEN = re.compile(r"\b(?:impl|trait)\b[^{};]*\{|\bfn\s+\w+|[{}]")
 TESTS = re.compile(r"#\[cfg\(test\)\]\s*mod tests \{|\Z")
+# As `rt fmt` lays a function out, its clauses are deeper than it is, and its body begins and ends just there.
+FUNCTION = re.compile(r"^( *)(pub |pub\(\w+\) )?(?:const )?(fn (\w+)[^{]*?(?:^ *(?:ensures|requires)\b.*?(?=^\1\{|;$(?!\n\1 )))?)"
+                      r" *(?:;|(\{\}|\{\n.*?^\1\}))$", re.M | re.S)
+CLAUSE = re.compile(r"^ *(ensures|requires)\b\*? *(\w*)\*? *\{\W*(\w*)", re.M)
+BLOCK = re.compile(r"^ *(pub |pub\(\w+\) )?((impl|trait)\b[^{};]*)\{", re.M)
 # Words of specs/ that say what several clauses say, each with its record, whose fields those are.
 WORDS = {"Migrates": "Migrates", "CopiesTo": "CopiesTo", "Loads": "LoadsAt", "Alters": "Alters"}
-CONTRACT = re.compile(r"\b(ensures|requires)\b\*?\s*(\w*)\*?\s*$")
 DEFINED = re.compile(r"^(?:abbrev|unfoldable|record|data)\b[^:\n]*?([^\s:]+) :|\bconst (\w+):", re.M)
-
-class Function:
-    """A function of a crate: its file below the crate's folder, where it begins and ends there, and the type and the trait of its block.
-
-    It has the names of its clauses, and the first word of each of `ensures` by its name. Its head, from `fn` to the contract, and its body
-    are without comments and literals.
-    """
-
-    def __init__(self, path, name, block, start):
-        self.path, self.name, self.start, self.end = path, name, start, 0
-        self.owners, self.public, self.in_trait_impl = block
-        self.ensures, self.requires, self.words, self.head, self.body = [], [], {}, "", ""
-        self.title = f"{self.owners[0]}::{name}" if self.owners else name
-        self.module = Path(path).relative_to("src").with_suffix("").parts
 
 def owners_of(head):
     """Returns the types whose functions are in the block that begins so: of a trait's impl, type and trait."""
@@ -33,63 +22,37 @@ def owners_of(head):
     while (plain := re.sub(r"<[^<>]*>", "", head)) != head:
         head = plain
     head = head.split(":")[0] if head.startswith("trait") else head
-    parts = [re.findall(r"\w+", part) for part in re.split(r"\bfor\b", head.rstrip("{ \n").split(" where ")[0])]
+    parts = [re.findall(r"\w+", part) for part in re.split(r"\bfor\b", head.split(" where ")[0])]
     return [words[-1] for words in reversed(parts) if words]
 
-def after_bracket(text, at):
-    """Returns the place after the bracket that closes the one at a place."""
-    depth = 0
-    for match in re.compile(r"[{}]").finditer(text, at):
-        depth += 1 if match.group() == "{" else -1
-        if depth == 0:
-            return match.end()
-    return len(text)
+class Function:
+    """A function of a crate: its file below the crate's folder, where it begins and ends there, the types and the trait of its block.
 
-def read_contract(function, text, at):
-    """Reads a function's contract from the end of its name on: the names of its clauses, and where its body is."""
-    depth = 0
-    for match in re.compile(r"[()\[\]{;]").finditer(text, at):
-        token, place = match.group(), match.start()
-        if place < at:
-            continue
-        if token in "()[]":
-            depth += 1 if token in "([" else -1
-        elif token == "{" and (clause := CONTRACT.search(text[at:place])):
-            kind, name = clause.groups()
-            getattr(function, kind).append(name)
-            at = after_bracket(text, place)
-            if kind == "ensures":
-                function.words[name] = re.match(r"\W*(\w*)", text[place:at])[1]
-        elif token == "{" or depth == 0:
-            function.end = after_bracket(text, place) if token == "{" else match.end()
-            function.body = text[place:function.end] if token == "{" else ""
-            break
-    function.head = re.split(r"\b(?:ensures|requires)\b", text[function.start:place])[0]
+    It has the comment above it, the names of its clauses, and the first word of each of `ensures` by its name. Its head, from `fn` to the
+    contract, and its body are without comments and literals.
+    """
+
+    def __init__(self, path, source, found):
+        blanks, public, told, self.name, body = found.groups()
+        self.path, self.start, self.end, self.body = path, found.start(3), found.end(), body or ""
+        # The last block that begins before it is its own, unless it is in none.
+        shown, block, kind = BLOCK.findall(found.string, 0, found.start())[-1] if blanks else ("", "", "")
+        self.owners, self.in_trait_impl = owners_of(block), kind == "impl" and " for " in block
+        self.public = "pub " in (public, shown if kind == "trait" else "")
+        self.title = f"{self.owners[0]}::{self.name}" if self.owners else self.name
+        self.head, clauses = re.split(r"^ *(?:ensures|requires)\b", told, flags=re.M)[0], CLAUSE.findall(told)
+        self.ensures, self.requires = ([name for kind, name, _ in clauses if kind == own] for own in ("ensures", "requires"))
+        self.words = {name: word for kind, name, word in clauses if kind == "ensures"}
+        self.module, self.line = Path(path).relative_to("src").with_suffix("").parts, source.count("\n", 0, self.start) + 1
+        # The comment right above it, past its attributes.
+        above = itertools.takewhile(lambda it: it.startswith(("//", "#[")), map(str.strip, reversed(source.split("\n")[:self.line - 1])))
+        self.comment = "\n".join(reversed([it.lstrip("/").strip() for it in above if it.startswith("//")]))
 
 def functions_in(path, source):
     """Returns the functions of a source file, in its order; those of `mod tests` at its end left out."""
     # Comments and literals are blanked, each in its length.
-    text = NOISE.sub(lambda m: re.sub(r"[^\n]", " ", m.group()), source)
-    text, lines, found, blocks = text[:TESTS.search(text).start()], source.split("\n"), [], []
-    for match in TOKEN.finditer(text):
-        token, before = match.group(), text[:match.start()]
-        if found and match.start() < found[-1].end:
-            continue
-        if token.startswith("fn"):
-            owners, is_trait, is_impl = next((block for block in reversed(blocks) if block), ([], False, False))
-            public, line = is_trait or bool(re.search(r"\bpub (const )?$", before)), before.count("\n")
-            found.append(Function(path, token.split()[1], (owners, public, is_impl), match.start()))
-            # The comment right above it, past its attributes.
-            above = itertools.takewhile(lambda it: it.startswith(("//", "#[")), map(str.strip, reversed(lines[:line])))
-            comment = "\n".join(reversed([it.lstrip("/").strip() for it in above if it.startswith("//")]))
-            found[-1].line, found[-1].comment = line + 1, comment
-            read_contract(found[-1], text, match.end())
-        elif token == "}":
-            blocks = blocks[:-1]
-        else:
-            is_public_trait = token.startswith("trait") and before.rstrip().endswith("pub")
-            blocks.append((owners_of(token), is_public_trait, token.startswith("impl") and " for " in token) if token != "{" else None)
-    return found
+    text = NOISE.sub(lambda found: re.sub(r"[^\n]", " ", found[0]), source)
+    return [Function(path, source, found) for found in FUNCTION.finditer(text[:TESTS.search(text).start()])]
 
 class Crate:
     """A crate's sources: texts by path below its folder, functions, the fields of each record of specs/, and wrong bodies by name."""

@@ -12,18 +12,18 @@ from concurrent.futures import ThreadPoolExecutor
 from pathlib import Path
 
 from office_tools import sources
-from office_tools.office import ROOT, Wrong, needs
+from office_tools.office import ROOT, needs, wrong_if
 
 # What shellcheck doesn't report: words in single quotes that look like the shell's own, since they are another program's.
 QUOTED = "SC2016,SC1003"
 PARAMETERS, LINES, CHARACTERS = 5, 40, 200
+# The functions that are larger; and a line that is two characters too long since something in it was renamed.
 LARGE = {
     "checker": "flaw_remedy", "count": "figured lost_from", "sheet": "style write_page write_row", "tables": "select_text",
-    "desk": "mend_open replay run send_all run_script run_steps tell_numbered",
-    "count_office": "fill fill_mended fill_open finish mend_served dispatch_order perform_locked", "store_tests": "are_refused give",
+    "desk": "mend_open replay run send_all run_script run_steps tell_numbered", "store_tests": "are_refused give",
+    "count_office": "fill fill_mended fill_open finish mend_served dispatch_order perform_locked",
+    "wire": "proofs/answering/answer_reading/Answers.antt:35",
 }
-# Two characters too long since something in it was renamed.
-LONG = {"wire": "proofs/answering/answer_reading/Answers.antt:35"}
 PARAMETER, FIXED = re.compile(r"[(,]\s*(?:mut )?(?!alloc:)(?:\([^()]*\)|[a-z_]\w*):(?!:)"), re.compile(r'.*"[^"]{60,}')
 BOUND = re.compile(r"\b(?:calls? itself|recurses)\b[^.]*\bat most\b", re.I)
 
@@ -36,21 +36,20 @@ def broken_rules():
         unbound = (f for f in crate.functions if calls_itself(f) and not BOUND.search(" ".join(f.comment.split())))
         yield from (f"crates/{crate.name}/{f.path}:{f.line}: {f.title} calls itself: no bound is stated" for f in unbound)
         large = {f.name for f in crate.functions if len(PARAMETER.findall(f.head)) > PARAMETERS or f.body.count("\n") - 1 > LINES}
-        for name in sorted(large ^ set(LARGE.get(crate.name, "").split())):
-            yield f"{crate.name}: {name} has more than {PARAMETERS} parameters or {LINES} lines, and isn't among LARGE; or needn't be"
         written = ("src/**/*.rt", "specs/**/*.antt", "proofs/**/*.antt")
         paths = [] if crate.name.endswith("_tests") else [path for part in written for path in crate.folder.glob(part)]
         lines = ((f"{path.relative_to(crate.folder)}:{number}", line) for path in paths for number, line in enumerate(path.open(), 1))
-        long = {place for place, line in lines if len(line.rstrip("\n")) > CHARACTERS and not FIXED.match(line)}
-        for place in sorted(long ^ set(LONG.get(crate.name, "").split())):
-            yield f"{crate.name}: {place} has more than {CHARACTERS} characters, and isn't among LONG; or needn't be"
+        large |= {place for place, line in lines if len(line.rstrip("\n")) > CHARACTERS and not FIXED.match(line)}
+        most = f"{PARAMETERS} parameters, {LINES} lines or {CHARACTERS} characters"
+        yield from (f"{crate.name}: {place} has more than {most}, and isn't among LARGE; or needn't be"
+                    for place in sorted(large ^ set(LARGE.get(crate.name, "").split())))
 
 def check_code():
     """Reads all code of this repository for what a linter sees, and for the house rules of CONTRIBUTING.md on sizes.
 
     pyflakes reads all Python, and shellcheck all shell; they find nothing. A function has at most five parameters besides itself and the
     allocator, and 40 lines; those that have more are named here, and one that needn't be is reported too. A line has at most 200
-    characters, but for texts that are fixed and LONG. The comment above a function that calls itself by its own name states a bound, as
+    characters, but for texts that are fixed. The comment above a function that calls itself by its own name states a bound, as
     `Recurses at most 30 times.`, which is one of the program's own; methods of a trait, and functions that call each other, aren't seen.
     """
     needs("pyflakes3", "shellcheck")
@@ -282,8 +281,7 @@ def check_wrong_bodies(*crates, built=False, gate=False, minutes: int = None):
     for path in sorted(Path().glob("crates/*/wrong-bodies/*.edit")):
         if path.parts[1] in crates if crates else not (gate and path.parts[1] in DEAREST):
             edits[path.parts[1]][path.stem] = path.read_text()
-    if empty := set(crates) - set(edits):
-        raise Wrong(f"no wrong bodies in {', '.join(sorted(empty))}")
+    wrong_if(empty := set(crates) - set(edits), f"no wrong bodies in {empty}")
     rt, counts, left_out = kit(), [0, 0], []
     rt.rtlib.guarded()  # it handles a signal, which only the first thread may
 
