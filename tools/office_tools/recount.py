@@ -210,3 +210,12 @@ class Count:
     def declaration(self):
         lines = [f"{number:2} {self.ballots.names[number]}" for number in self.those("Ee" if self.is_contested else "-")]
         return written([f"Ward {self.ballots.ward} {self.ballots.ward_name}", "Elected", *lines])
+
+def counts(lines, choose):
+    """Yields the count of the ballots of these lines; and again after each lot that it needs, which is chosen, and added to the lines."""
+    while True:
+        yield (count := Count(Ballots(written(lines))))
+        if not count.waits:
+            return
+        stage, tied = count.waits
+        lines.append(f"# Lot at stage {stage}: {choose(tied)}")

@@ -11,7 +11,7 @@ from pathlib import Path
 from office_tools.election import CODES, OFFICE_CODE, evening_office
 from office_tools.made_up import Ward
 from office_tools.office import ROOT, basic, needs, request, temporary_folder, wrong_if
-from office_tools.recount import Ballots, Count, blt, written
+from office_tools.recount import blt, counts
 
 CONSTANT = re.compile(r'const (\w+): &str =\s+r#"(.*?)"#;', re.DOTALL)
 FORMAT = re.compile(r'format!\(in alloc;\s*"(.*?)"\s*\)', re.DOTALL)
@@ -86,13 +86,12 @@ WARDS = [
 
 def counted(ward, name, seats, names, *papers):
     """Returns what the screen may show of a ward, counted apart from the program, and of whom lots were drawn, by the stage."""
-    lines, drawn = blt(seats, papers[0], names, papers[1] or [], name, ward, *papers[2:])[:None if papers[1] else -1], []
-    while (count := Count(Ballots(written(lines)))).waits:
-        drawn.append(count.waits)
-        lines.append(f"# Lot at stage {count.waits[0]}: {count.waits[1][0]}")
+    lines = blt(seats, papers[0], names, papers[1] or [], name, ward, *papers[2:])[:None if papers[1] else -1]
+    *waiting, count = counts(lines, min)
     head, *stages = re.split("(?m)^(?=Stage )", count.sheet().decode())
     sheets = [head + "".join(stages[:number]) for number in range(len(stages) + 1)]
-    return {"ward": ward, "name": name, "names": names, "sheets": sheets, "declaration": count.declaration().decode(), "drawn": drawn}
+    return {"ward": ward, "name": name, "names": names, "sheets": sheets, "declaration": count.declaration().decode(),
+            "drawn": [each.waits for each in waiting]}
 
 def made_up(chance):
     """Returns the same of a made-up ward that has a poll."""

@@ -1,5 +1,6 @@
 """Ballots, sheets and cast-vote records, of the program and of anyone, compared with a count apart from the program."""
 import collections
+import contextlib
 import itertools
 import os
 import random
@@ -10,7 +11,7 @@ from pathlib import Path
 
 from office_tools.made_up import Ward, damaged, judged, sealed_office
 from office_tools.office import Table, Wrong, checker, temporary_folder, timed, wrong_if
-from office_tools.recount import Ballots, Count, Unreadable, blt, written
+from office_tools.recount import Ballots, Count, Unreadable, blt, counts, written
 
 # Characters that could steer a terminal: a question mark is shown for each.
 STEERS = re.compile("[\0-\x09\x0b-\x1f\x7f-\x9f\u061c\u200e\u200f\u202a-\u202e\u2066-\u2069]")
@@ -126,15 +127,6 @@ def made_up_ballots(chance):
     rejected = [chance.randint(0, 9) for _ in range(5)]
     return blt(seats, bundles, names, rejected, chance.choice(NAMES), chance.randint(1, 99), gone)
 
-def counted(lines, chance):
-    lines = list(lines)
-    while True:
-        count = Count(Ballots(written(lines)))
-        if not count.waits:
-            return lines, count
-        stage, tied = count.waits
-        lines.append(f"# Lot at stage {stage}: {chance.choice(tied)}")
-
 def as_others_write(lines, chance):
     """Returns the same ballots in other words: lines of papers in another order and parted, remarks, blanks and line ends."""
     end, start, papers = lines.index("0"), 2 if lines[1].startswith("-") else 1, []
@@ -176,17 +168,17 @@ def shared(lines, chance):
 
 def as_recounted(lines, chance):
     """Returns ballots with the sheet that the recount makes of them, and what the checker must make of both."""
-    try:
-        lines, count = counted(lines, chance)
-    except Unreadable:
-        count = None
-    if count is None or count.lots:
-        return written(lines), b"", [2], rb"error: (line \d+ of the ballots: |(a|no|the) lot )"
-    return written(lines), count.sheet(), [0], b"the text is the stage sheet "
+    drawn = list(lines)
+    with contextlib.suppress(Unreadable):
+        *_, count = counts(drawn, chance.choice)
+        lines = drawn
+        if not count.lots:
+            return written(lines), count.sheet(), [0], b"the text is the stage sheet "
+    return written(lines), b"", [2], rb"error: (line \d+ of the ballots: |(a|no|the) lot )"
 
 def cases(chance):
     """Yields (what it is, the ballots, the text, the statuses that are right, what is printed) of a made-up ward."""
-    lines, count = counted(made_up_ballots(chance), chance)
+    *_, count = counts(lines := made_up_ballots(chance), chance.choice)
     ballots, sheet, declaration = written(lines), count.sheet(), count.declaration()
     for text, name in ((sheet, b"stage sheet"), (declaration, b"declaration")):
         yield "sheets and declarations", ballots, text, [0], b"the text is the %s that" % name
@@ -339,25 +331,21 @@ def read(content, seats, candidates):
 
 def compared(content, seats, candidates, chance):
     """Compares what the program makes of a file with what is read here, lot by lot. Returns what that is."""
-    lines, lots = read(content, seats, candidates), {}
+    lines = read(content, seats, candidates)
     words = ["--count", "-", "--seats", str(seats), "--name", WARD, *(word for name in candidates for word in ("--candidate", name))]
     if isinstance(lines, int):
         status, out, err = checker(*words, input=content)
         if status != 2 or out or not err.startswith(b"error: line %d of the ballots: " % lines):
             raise Wrong(f"line {lines} isn't understood: status {status}, {err}, {out[:200]}")
         return "refused"
-    while True:
-        ballots = written(lines + [f"# Lot at stage {stage}: {candidate}" for stage, candidate in sorted(lots.items())])
-        try:
-            count = Count(Ballots(ballots))
-        except Unreadable:
-            if checker(*words, input=content)[0] != 2:
-                raise Wrong("nobody has to be chosen, or there are too many papers") from None
-            return "no contest"
-        compare_counted(content, words, lots, count, {"": count.sheet()} | ({} if count.waits else {"--ballots": ballots}))
-        if not count.waits:
-            return "counted"
-        lots[count.waits[0]] = chance.choice(count.waits[1])
+    try:
+        for count in counts(lines, chance.choice):
+            texts = {"": count.sheet()} | ({} if count.waits else {"--ballots": written(lines)})
+            compare_counted(content, words, count.ballots.lots, count, texts)
+    except Unreadable:
+        wrong_if(checker(*words, input=content)[0] != 2, "nobody has to be chosen, or there are too many papers")
+        return "no contest"
+    return "counted"
 
 def try_hostile_records(wards=1000, seed=1):
     """Gives the program that counts ballots without an office cast-vote records of made-up wards, and files that are no such records.
