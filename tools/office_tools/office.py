@@ -254,23 +254,23 @@ class Office:
     def run(self, *words, seconds=SECONDS, **how):
         return ended(self.start(*words, **how), seconds)
 
-    def do(self, *words):
-        printed = self.run(*words)
+    def do(self, *words, **how):
+        printed = self.run(*words, **how)
         wrong_if(printed.status, f"{' '.join(map(str, words))}: {printed}")
         return printed.out
 
     def write(self, name, lines):
         (self.folder / name).write_text("".join(f"{line}\n" for line in lines), encoding="utf-8", newline="")
 
-    def replay(self, lines):
+    def replay(self, lines, **how):
         self.write(SCRIPT, lines)
-        return self.do("replay", SCRIPT)
+        return self.do("replay", SCRIPT, **how)
 
-    def begin(self, lines=()):
+    def begin(self, lines=(), **how):
         """Makes the office, sends these orders as one script, and returns the office."""
         wrong_if((printed := self.run("init")) != (0, "office ready\n", ""), f"init: {printed}")
         if lines:
-            self.replay(lines)
+            self.replay(lines, **how)
         return self
 
     def write_codes(self, codes):

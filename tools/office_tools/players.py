@@ -1,14 +1,13 @@
 """People at pages of the office in Chromium, which Debian's python3-selenium drives: the returning officer, tellers, those at
 the screen in the hall; and an evening."""
 import contextlib
-import functools
 import json
 import re
 import sys
 import time
 
 from office_tools.election import CODES, OFFICE_CODE
-from office_tools.office import HERE, SCRIPT, SECONDS, Office, Proxy, Wrong, free_port, needs, temporary_folder, wrong_if
+from office_tools.office import HERE, SECONDS, Office, Proxy, Wrong, free_port, needs, temporary_folder, wrong_if
 
 WORDS = ["--headless=new", "--no-sandbox", "--disable-gpu", "--no-first-run", "--disable-background-networking"]
 
@@ -83,7 +82,6 @@ FOCUSED = """(({id, dataset, tagName, parentElement}) => [dataset?.key, id, tagN
 def chained(kind):
     """Makes each step of a class that returns nothing return its object, so that a play is read as a row of steps."""
     def returning(step):
-        @functools.wraps(step)
         def taken(self, *words, **how):
             found = step(self, *words, **how)
             return self if found is None else found
@@ -96,6 +94,7 @@ def chained(kind):
 @chained
 class Player(Browser):
     FLAGS = ()
+    keys = Browser.press
 
     def __init__(self, evening):
         super().__init__(self.FLAGS)
@@ -107,9 +106,6 @@ class Player(Browser):
 
     def shows(self, words, part="result"):
         self.until(f"document.getElementById('{part}')?.innerText.includes({json.dumps(words)})")
-
-    def keys(self, *keys):
-        self.press(*keys)
 
     def pictured(self, name):
         """Writes pictures of the whole page, if they are asked for. Nothing is wider than the window."""
@@ -303,9 +299,7 @@ class Evening:
     def another(self, orders, folder="another"):
         """Serves another office, of these orders, at the same address."""
         self.server.kill()
-        self.office = Office(self.folder / folder).begin()
-        self.office.write(SCRIPT, orders)
-        wrong_if(printed := self.office.run("replay", SCRIPT, seconds=900).err, printed)
+        self.office = Office(self.folder / folder).begin(orders, seconds=900)
         self.start()
 
     def check(self, players):

@@ -84,8 +84,8 @@ class Trial:
         wrong_if(others := there - ({COPY, COPY_LOG} if printed.out or keeps else set()), f"left behind: {others}: {printed}")
         if COPY in there:
             opened = office.copied(self.folder / "opened", COPY).run("wards")
-            if not (opened.status == 0 if office.rows(COPY) else opened == (3, "", NO_OFFICE)):
-                raise Wrong(f"what is left of a copy prints {opened}: {printed}")
+            is_right = opened.status == 0 if office.rows(COPY) else opened == (3, "", NO_OFFICE)
+            wrong_if(not is_right, f"what is left of a copy prints {opened}: {printed}")
 
     def check_again(self, office, printed, place):
         """Checks that the order, given again, prints and leaves what it does if nothing is refused."""
@@ -98,8 +98,7 @@ class Trial:
         """Judges what an order that was stopped printed and left, and gives it again. Returns the number of the state that was found."""
         self.check_beside(here, printed, keeps)
         place = self.place_of(printed, left(here, printed.status))
-        if not is_right(place):
-            raise Wrong(f"printed {printed}, and {place} of {len(self.states) - 1} records are found")
+        wrong_if(not is_right(place), f"printed {printed}, and {place} of {len(self.states) - 1} records are found")
         self.check_again(here, printed, place)
         return place
 
@@ -144,8 +143,7 @@ def trials(folder, name="", orders=None):
     wanted += [(before[-1], COPYING), (before[SCRIPTED[0]], REPLAY)]
     found = [Trial(folder / f"trial-{number}", office, order, number) for number, (office, order) in enumerate(wanted)]
     wrong_if(found[-2].states[-1] != (before[-1].rows(),) * 2, "a copy has other rows than its office")
-    if is_small and found[-1].states[-1] != left(before[SCRIPTED[-1] + 1]):
-        raise Wrong("a script leaves other rows than its orders, each given alone")
+    wrong_if(is_small and found[-1].states[-1] != left(before[SCRIPTED[-1] + 1]), "a script leaves other rows than its orders do")
     return [trial for trial in found if name in ("", trial.order.words[0])]
 
 def side_by_side(act, items):

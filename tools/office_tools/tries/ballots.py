@@ -11,7 +11,7 @@ from pathlib import Path
 
 from office_tools.made_up import Ward, damaged, judged, sealed_office
 from office_tools.office import Table, Wrong, checker, temporary_folder, timed, wrong_if
-from office_tools.recount import Ballots, Count, Unreadable, blt, counts, written
+from office_tools.recount import Ballots, Count, Unreadable, blt, counts, require, written
 
 # Characters that could steer a terminal: a question mark is shown for each.
 STEERS = re.compile("[\0-\x09\x0b-\x1f\x7f-\x9f\u061c\u200e\u200f\u202a-\u202e\u2066-\u2069]")
@@ -21,9 +21,9 @@ def compare(what, told, wanted):
     for place, (line, right) in enumerate(itertools.zip_longest(told.split(b"\n"), wanted.split(b"\n")), 1):
         wrong_if(line != right, f"{what}, line {place}: told is {line}, wanted {right}")
 
-def compare_counted(content, words, lots, count, wanted):
-    """Counts a file without an office, with these lots added, and compares each text by its option, the line about a lot and the status."""
-    line, added = b"0", [word for stage, drawn in lots.items() for word in ("--lot", f"{stage}:{drawn}")]
+def compare_counted(content, words, count, wanted):
+    """Counts a file without an office, with the lots of a count, and compares the texts by their options, the line about a lot, the status."""
+    line, added = b"0", [word for stage, drawn in count.ballots.lots.items() for word in ("--lot", f"{stage}:{drawn}")]
     if count.waits:
         tied = ", ".join(f"{number} {count.ballots.names[number]}" for number in count.waits[1])
         line = STEERS.sub("?", f"lot needed at stage {count.waits[0]} among {tied}").encode() + b"\n1"
@@ -34,31 +34,29 @@ def compare_counted(content, words, lots, count, wanted):
 
 def play(ward, folder):
     """Plays a ward to its declaration, and compares all that the program prints on the way. Returns its count."""
-    number, office, lots, is_over = ward.number, sealed_office(folder, ward), {}, False
-    bundles, rejected = ward.judged()
+    number, office, (bundles, rejected) = ward.number, sealed_office(folder, ward), ward.judged()
 
     def told(*words):
         return office.do(*words).encode("utf-8", "surrogateescape")
     first = told("ballots", number)
-    while not is_over:
+    while True:
         count = Count(Ballots(ballots := told("ballots", number)))
         papers = [(bundle.papers, bundle.preferences) for bundle in sorted(count.ballots.bundles)]
         compare("ballots, sorted", written([count.ballots.rejected, *papers]), written([rejected, *bundles]))
         wrong_if(count.lots, f"ballots: no stage takes these lots: {count.lots}")
-        is_over, (stage, tied) = not count.waits, count.waits or (0, [])
+        stage, tied = count.waits or (0, [])
         last = f"lot needed at stage {stage} among {', '.join(map(str, tied))}" if tied else "count finished"
         compare("count", told("count", number, "--id", f"count-to-{stage}").splitlines()[-1], last.encode())
         compare("sheet", told("sheet", number), count.sheet())
-        if is_over:
+        if not tied:
             told("declare", number, "--id", "d")
             compare("result", told("result", number), count.declaration())
-        texts = {"": count.sheet(), "--declaration": is_over * count.declaration(), "--table": told("table", number), "--ballots": ballots,
-                 "--page --title Spring": told("page", number, "--title", "Spring")}
-        compare_counted(first, ["--count", "-"], lots, count, texts)
-        if tied:
-            lots[stage] = ward.chance.choice(tied)
-            told("lot", number, stage, lots[stage], "--id", f"l{stage}")
-    return count
+        texts = {"": count.sheet(), "--declaration": b"" if tied else count.declaration(), "--table": told("table", number),
+                 "--ballots": ballots, "--page --title Spring": told("page", number, "--title", "Spring")}
+        compare_counted(first, ["--count", "-"], count, texts)
+        if not tied:
+            return count
+        told("lot", number, stage, ward.chance.choice(tied), "--id", f"l{stage}")
 
 def play_wards(wards, seed):
     totals = collections.Counter()
@@ -270,10 +268,6 @@ def made_up_records(chance):
     text = chance.choice(("", "\ufeff")) + end.join(map(",".join, lines)) + chance.choice(("", end))
     return text.encode(), names if is_ranked else []
 
-def require(condition, what):
-    if not condition:
-        raise Unreadable(what)
-
 def fields_in(line):
     """Returns the fields of a line, without quotation marks."""
     require(re.fullmatch(f"{FIELD}(,{FIELD})*", line), "no fields")
@@ -341,7 +335,7 @@ def compared(content, seats, candidates, chance):
     try:
         for count in counts(lines, chance.choice):
             texts = {"": count.sheet()} | ({} if count.waits else {"--ballots": written(lines)})
-            compare_counted(content, words, count.ballots.lots, count, texts)
+            compare_counted(content, words, count, texts)
     except Unreadable:
         wrong_if(checker(*words, input=content)[0] != 2, "nobody has to be chosen, or there are too many papers")
         return "no contest"

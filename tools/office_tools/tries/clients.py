@@ -21,20 +21,19 @@ READER_CODES = {**CODES, READER: "hh3m-7wpn-4kfr"}
 # How long a crowd is there, and how long a good client may wait meanwhile for the whole of its answer, in seconds.
 CROWDED, SLOWEST = 12, 3
 
-def of(clerk, target, body=""):
-    return request(f"/clerks/{clerk}/{target}", f"Authorization: {basic(clerk, READER_CODES[clerk])}", body=body)
+def of(clerk, target="work", *headers, body="", code=""):
+    return request(f"/clerks/{clerk}/{target}", f"Authorization: {basic(clerk, code or READER_CODES[clerk])}", *headers, body=body)
 
 def print_crowds(serving):
-    """Prints a row for each crowd."""
     heads = "at once", f"came in {CROWDED} seconds", "answers of another", "the slowest, seconds", "memory so far, MB"
-    table, refused = Table("Clients who", *heads), of(9, "batches/99/keying", '{"id":"h1","round":1,"papers":["1,2,","9"]}')
+    table, refused = Table("Clients who", *heads), of(9, "batches/99/keying", body='{"id":"h1","round":1,"papers":["1,2,","9"]}')
     ask_well = functools.partial(serving.ask, of(4, ""), shut=True)
     wrong_if(status(good := ask_well()) != 200, f"the good client gets {good}")
     for what, count, sends, how in (
         ("say nothing", MANY, b"", {}),
         ("half a request, and nothing more", MANY, refused[:-9], {}),
-        ("ask, and go at once", MANY, of(9, "work"), {"goes": True}),
-        ("ask for more than sockets take, and never read it", FEW, of(READER, "work"), {"reads": False}),
+        ("ask, and go at once", MANY, of(9), {"goes": True}),
+        ("ask for more than sockets take, and never read it", FEW, of(READER), {"reads": False}),
     ):
         times, ends = [], time.monotonic() + CROWDED
         with Crowd(serving.port, count, sends, **how) as crowd:
@@ -61,8 +60,7 @@ def try_hostile_clients():
             print_crowds(serving)
             wrong_if(serving.kill() != (-9, "", "") or office.rows() != rows, "serve printed something, or the rows aren't as before")
 
-V4, V6, BOTH = socket.AF_INET, socket.AF_INET6, (HERE, "::1")
-TAKEN = (3, "", "fault 107: socket or output\n")
+BOTH, TAKEN = (HERE, "::1"), (3, "", "fault 107: socket or output\n")
 ASKS, WORK = request("/clerks/4/work", "Host: localhost"), b'{"clerk":4,"work":[]}'
 PATIENCE, FEW_FILES = 10, ["prlimit", "--nofile=64"]
 
@@ -76,17 +74,14 @@ def are_good(port, *hosts):
 def holds(office):
     """Asks at both addresses and by name, and tries to take the port at each address, and at all of them."""
     with office.serve().wait() as serving:
-        for family, host in ((V4, HERE), (V6, "::1"), (V4, ""), (V6, "")):
-            with contextlib.suppress(OSError):
-                socket.create_server((host, serving.port), family=family).close()
-                return False
-        return are_good(serving.port, *BOTH, "localhost")
+        is_taken = any(is_free(serving.port, host) for host in (*BOTH, "", "::"))
+        return not is_taken and are_good(serving.port, *BOTH, "localhost")
 
 def taken(office):
     """Has another process take the port first, at one address or at all: `serve` ends."""
     found = []
-    for family, host, dual in ((V6, "::1", False), (V4, HERE, False), (V6, "", False), (V4, "", False), (V6, "", True)):
-        port = free_port()
+    for host, dual in (("::1", False), (HERE, False), ("::", False), ("", False), ("::", True)):
+        port, family = free_port(), socket.AF_INET6 if ":" in host else socket.AF_INET
         with socket.create_server((host, port), family=family, dualstack_ipv6=dual):
             found.append(office.serve(port=port).ended())
     return found == [TAKEN] * 5
@@ -135,16 +130,13 @@ MOST, MINUTE, SENDERS, DENIED, BODY = 6000, 60, 4, 1000, 200_000
 # The letters of codes, but for the x of wrong ones; the tellers, and a number that no line of the file has.
 LETTERS, TELLERS, NOBODY = "abcdefghjkmnprstuwy2347", range(1, 41), 999
 
-def with_code(clerk, code, *headers):
-    return request(f"/clerks/{clerk}/work", f"Authorization: {basic(clerk, code)}", *headers)
-
 def shown(said):
     return ", ".join(f"{count} got {one}" for one, count in sorted(said.items()))
 
 def check_limit(told, codes):
     """Checks that from 6,000 wrong codes within a minute on they are answered 429, and the right ones as ever."""
     def guessed(turn):
-        return status(told(with_code(TELLERS[turn % len(TELLERS)], "x" * 14)))
+        return status(told(of(TELLERS[turn % len(TELLERS)], code="x" * 14)))
 
     began = time.monotonic()
     with ThreadPoolExecutor(SENDERS) as senders:
@@ -153,11 +145,11 @@ def check_limit(told, codes):
     if said != {401: MOST} or took > MINUTE - 5:
         raise Wrong(f"of {MOST} wrong codes within {took:.0f} seconds {shown(said)}; a slow machine doesn't reach the limit")
     for clerk in (TELLERS[0], NOBODY):
-        text, without = told(with_code(clerk, "x" * 14)), told(request(f"/clerks/{clerk}/work"))
+        text, without = told(of(clerk, code="x" * 14)), told(request(f"/clerks/{clerk}/work"))
         if status(text) != 429 or b"\r\nRetry-After: 60\r\n" not in text or status(without) != 401:
             raise Wrong(f"clerk {clerk}, after {MOST} wrong codes: {text[:200]}, and without a code {without[:200]}")
-    if (good := Counter(status(told(with_code(clerk, codes[clerk]))) for clerk in TELLERS)) != {200: len(TELLERS)}:
-        raise Wrong(f"tellers, after {MOST} wrong codes: {shown(good)}")
+    good = Counter(status(told(of(clerk, code=codes[clerk]))) for clerk in TELLERS)
+    wrong_if(good != {200: len(TELLERS)}, f"tellers, after {MOST} wrong codes: {shown(good)}")
     while guessed(0) == 429 and time.monotonic() < began + 2 * MINUTE:
         time.sleep(0.25)
     lasted = time.monotonic() - began
@@ -192,8 +184,7 @@ def nginx(folder, port):
     tls, page = free_port(), (ROOT / "docs/officer/network.md").read_text(encoding="utf-8")
     text = page.split("```nginx\n")[1].split("# send a browser")[0]
     for old, new in (("443", f"{HERE}:{tls}"), ("/etc/ssl/certs/", ""), ("/etc/ssl/private/", ""), ("192.0.2.", LAN), ("8080", str(port))):
-        if text.count(old) != 1:
-            raise Wrong(f"docs/officer/network.md has another configuration: {old} is in it {text.count(old)} times")
+        wrong_if(text.count(old) != 1, f"docs/officer/network.md has another configuration: {old} is in it {text.count(old)} times")
         text = text.replace(old, new)
     (folder / "nginx.conf").write_text(f"daemon off; pid pid; error_log errors; events {{}} http {{ {ROOMS} {text} }}", encoding="utf-8")
     subprocess.run(CERTIFICATE.split(), cwd=folder, check=True, capture_output=True)
@@ -201,7 +192,7 @@ def nginx(folder, port):
 
     def asked(address, clerk, code):
         line = trusting.wrap_socket(socket.create_connection((HERE, tls), SECONDS, (address, 0)), server_hostname=NAME)
-        return status(answer(line, with_code(clerk, code, f"Host: {NAME}", "Connection: close")))
+        return status(answer(line, of(clerk, "work", f"Host: {NAME}", "Connection: close", code=code)))
     with subprocess.Popen(["nginx", "-p", folder, "-c", folder / "nginx.conf"]) as process:
         try:
             wrong_if(not waited(lambda: listens((HERE, tls)), 10), "nginx doesn't start")

@@ -14,10 +14,10 @@ import struct
 import subprocess
 import threading
 import time
+from concurrent.futures import ThreadPoolExecutor
 from pathlib import Path
 
-from office_tools import election
-from office_tools.election import COPY, COPYING, ELECTION, END, FILE, READS, REPLAY, REQUESTS, SCRIPTED, Order, offices
+from office_tools.election import COPY, COPYING, ELECTION, END, FILE, READS, REPLAY, REQUESTS, SCRIPTED, Order, make_older, offices
 from office_tools.made_up import noise
 from office_tools.office import (
     LOG, NO_OFFICE, SCRIPT, STORE, TOWN, Crowd, Office, Table, Wrong, ended, listens, needs, open_many_files, program, remove,
@@ -35,7 +35,7 @@ LENGTHS = [0, 1, 31, 32, BEGUN, BEGUN + 1, 55, 56, 511, 512, 567, 568, FRAME + 3
 
 def try_older_office(path: Path):
     """Makes the file of an office as an earlier program left it, to bring over: crates/store_tests/src/older/rows.rt holds it as text."""
-    election.make_older(path)
+    make_older(path)
 
 def kinds(town, chance):
     def turned(place):
@@ -79,8 +79,8 @@ def tried(folder, what, town, log=None):
         before, printed = seen(office), office.run(*order.words)
         fault = re.fullmatch(r"fault (\d+): .*\n", printed.err)
         wrong_if(printed.status != (3 if fault else 0), f"{what}: {order.name}: {printed}")
-        if fault and (seen(office) != before or office.run(*order.words).err != printed.err):
-            raise Wrong(f"{what}: {order.name}: a fault, and a file changed, or not the same fault again")
+        is_kept = not fault or seen(office) == before and office.run(*order.words).err == printed.err
+        wrong_if(not is_kept, f"{what}: {order.name}: a fault, and a file changed, or not the same fault again")
         wrong_if(not fault and order is QUAY and not office.rows(), f"{what}: a ward was added, and no office is there")
         found.append(fault[1] if fault else "opens")
     wrong_if(found[0] != found[1], f"{what}: {found}")
@@ -125,9 +125,9 @@ OWNERS = [
 ]
 
 def of_accounts(office, mode=0o600, **owners):
-    for path, owner in ((office.folder / name, owner) for name, owner in owners.items()):
-        os.chown(path, owner, -1)
-        path.chmod(mode)
+    for name, owner in owners.items():
+        os.chown(office.folder / name, owner, -1)
+        os.chmod(office.folder / name, mode)
     return office
 
 def served_once(office, *words):
@@ -213,22 +213,22 @@ def kind(printed):
     return printed[2][6:9] if printed[0] == 3 else "answered"
 
 class Pair:
+    """Two orders at an office, and each outcome that is right: what they print, the rows, what that is, and what is given again then.
+
+    They may print and leave what they do one after the other. An `init` that is first may turn the other away, which is given again.
+    """
+
     def __init__(self, folder, office, *orders):
-        self.folder, self.office, self.orders = folder, office, orders
-        self.in_turn = [self.sequence(0, 1), self.sequence(1, 0)]
+        self.folder, self.office, self.orders, self.outcomes = folder, office, orders, []
         self.seconds = timed(orders[0].done, office.copied(folder / "sequence"))[1]
-
-    def sequence(self, *places):
-        """Returns what orders print one after the other, by their places, and the rows after each."""
-        here, printed, found = self.office.copied(self.folder / "sequence"), {}, []
-        for place in places:
-            printed[place] = self.orders[place].done(here)
-            found.append(left(here))
-        return printed, found
-
-    def turned_away(self, last):
-        other = self.orders[1 - last]
-        return (3, "", NO_OFFICE if other.town == TOWN else NOT_WRITTEN + "\n") if other.words == ["init"] else None
+        for one, last in ((0, 1), (1, 0)):
+            here = office.copied(folder / "sequence")
+            first, between, second, after = orders[one].done(here), left(here), orders[last].done(here), left(here)
+            what = next((kind(printed) for printed in (first, second) if printed.status == 3), "both")
+            self.outcomes.append(({one: first, last: second}, after, what, None))
+            if orders[one].words == ["init"]:
+                away = (3, "", NO_OFFICE if orders[one].town == TOWN else NOT_WRITTEN + "\n")
+                self.outcomes.append(({one: first, last: away}, between, kind(away), (orders[last], second, after)))
 
     def tried(self, chance):
         """Returns 'both', or the fault that one printed."""
@@ -236,17 +236,13 @@ class Pair:
         first = self.orders[0].started(here)
         time.sleep(chance.uniform(0, 1.2 * self.seconds))
         second = self.orders[1].started(here)
-        printed, found = {0: ended(first), 1: ended(second)}, left(here)
-        for wanted, (_, after) in self.in_turn:
-            if printed == wanted and found == after:
-                return next((kind(one) for one in printed.values() if one.status == 3), "both")
-        for wanted, (between, after) in self.in_turn:
-            one, last = wanted
-            if printed[one] == wanted[one] and found == between and printed[last] == self.turned_away(last):
-                if (again := self.orders[last].done(here)) != wanted[last] or left(here) != after:
-                    raise Wrong(f"{self.orders[last].words} given again: {again}")
-                return kind(printed[last])
-        raise Wrong(f"{self.orders[0].words}, {self.orders[1].words}: {printed}")
+        found = {0: ended(first), 1: ended(second)}, left(here)
+        what, again = next((outcome[2:] for outcome in self.outcomes if outcome[:2] == found), ("", None))
+        wrong_if(not what, f"{self.orders[0].words}, {self.orders[1].words}: {found[0]}")
+        if again:
+            order, *wanted = again
+            wrong_if([order.done(here), left(here)] != wanted, f"{order.words}, given again, isn't {wanted}")
+        return what
 
 def print_pairs(folder, before, runs, chance):
     table = Table(f"Two orders at once ({runs} runs each)", "both answered", *(f"one: fault {word}" for word in FAULTS))
@@ -431,27 +427,25 @@ class Waits:
 
     def while_serve_comes_and_goes(self):
         """Gives orders one after the other, while `serve` begins and is ended again and again."""
-        found, ends, began = [], threading.Event(), time.perf_counter()
+        def come_and_go():
+            for _ in range(SERVING):
+                serving = self.serve()
+                time.sleep(0.05)
+                serving.process.terminate()
+                serving.ended(30)
 
-        def orders():
-            for number in itertools.takewhile(lambda _: not ends.wait(0.05), itertools.cycle(COMING)):
-                found.append((number, self.add(number)))
-        giver = threading.Thread(target=orders, daemon=True)
-        giver.start()
-        for _ in range(SERVING):
-            serving = self.serve()
-            time.sleep(0.05)
-            serving.process.terminate()
-            serving.ended(30)
-        ends.set()
-        giver.join()
+        began = time.perf_counter()
+        with ThreadPoolExecutor(1) as pool:
+            serves = pool.submit(come_and_go)
+            given = itertools.takewhile(lambda _: time.sleep(0.05) or not serves.done(), itertools.cycle(COMING))
+            found = [(number, self.add(number)) for number in given]
+            serves.result()
         cut = [(number, printed) for number, printed in found if printed != added(number)]
         # One whose server was ended after it had read the order may have been done: it says so, and is given again.
         for number, printed in cut:
             expect(f"ward {number}, cut off, and given again", (printed, self.add(number).status), ((3, "", STORE), 0))
-        what = f"{len(found)} orders while `serve` begins and is ended {SERVING} times: "
-        what += f"{len(found) - len(cut)} done at once, {len(cut)} when given again"
-        self.table.row(what, f"{time.perf_counter() - began:.1f}")
+        done, took = f"{len(found) - len(cut)} done at once, {len(cut)} when given again", time.perf_counter() - began
+        self.table.row(f"{len(found)} orders while `serve` begins and is ended {SERVING} times: {done}", f"{took:.1f}")
 
     def script(self, what, first, name=SCRIPT, before="", times=1, pause=0, meanwhile=bool):
         """Sends a script that adds four wards, or one through a pipe, with a pause after each line. Something happens after the second."""

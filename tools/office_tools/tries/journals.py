@@ -155,8 +155,7 @@ def compared(office, chance, in_other_forms):
     """Checks that the journal of an office makes the same office. Returns its rows."""
     found, text = office.rows(), journal(office)
     lines = [line for line in text.split("\n") if line and not line.startswith("#")]
-    if len(lines) != len(found["receipt"]):
-        raise Wrong(f"{len(lines)} lines for {len(found['receipt'])} receipts")
+    wrong_if(len(lines) != len(found["receipt"]), f"{len(lines)} lines for {len(found['receipt'])} receipts")
     new = Office(office.folder / "new").begin()
     printed, again = replayed(new, text), new.rows()
     wrong_if(printed.status or printed.err or printed.out.count("\n") != len(lines), f"the journal sent: {printed}")

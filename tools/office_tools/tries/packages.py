@@ -23,10 +23,10 @@ def ran(*words):
 
 def see(what, done, status, *texts):
     """Prints what was seen, if a command ended with a status and printed these texts; returns all that it printed."""
-    wrong_if(done.returncode != status or any(text not in done.stdout for text in texts),
-             f"{what}: status {done.returncode}, and it printed: {done.stdout}")
+    printed = done.stdout
+    wrong_if(done.returncode != status or any(text not in printed for text in texts), f"{what}: {done.returncode}, {printed}")
     print(f"seen: {what}", flush=True)
-    return done.stdout
+    return printed
 
 @contextlib.contextmanager
 def network():

@@ -61,8 +61,7 @@ def nominations(officer):
             officer.asked("Add ward 7").pictured("2-ask-ward")
         officer.yes(f"Add ward {number}", name, "2 seats")
     officer.go("nominations", 7).fill("candidate", number=1, name="Ann").reload()
-    if officer.shows("Updated at", "health").value("document.getElementById('candidate-name').value") != "Ann":
-        raise Wrong("what was typed is lost")
+    officer.shows("Updated at", "health").until("document.getElementById('candidate-name').value === 'Ann'")
     officer.fill("candidate", name="Ann").send().shows("candidate 1 of ward 7 added")
     officer.drop("drop-candidates", names=[*NAMES[:3], "7,3,Dee", *NAMES[4:]]).shows("This number is in the file twice", "preview")
     officer.pictured("3-preview-wrong").drop("drop-candidates", names=NAMES).shows("Will be added", "preview")
@@ -178,11 +177,10 @@ def declaring(officer):
 def printed(officer):
     """Prints the declaration and the sheet, and checks that they are what the orders print and that the page is as before."""
     officer.driver.execute_script("window.print = () => { window.printed = document.querySelector('#paper pre').textContent; };")
-    for key, words in (("print-result", ["result", 7]), ("print-sheet", ["sheet", 7])):
-        officer.click(key).until(f"window.printed === {json.dumps(officer.evening.office.do(*words))}")
+    for order in ("result", "sheet"):
+        officer.click(f"print-{order}").until(f"window.printed === {json.dumps(officer.evening.office.do(order, 7))}")
         officer.value("dispatchEvent(new Event('afterprint'))")
-    if officer.value("document.getElementById('paper').children.length || document.body.classList.contains('printing')"):
-        raise Wrong("the printed text is still on the page")
+    officer.until("!document.getElementById('paper').children.length && !document.body.classList.contains('printing')")
     officer.type("title page", TITLE)
     saved(officer, ("page", "result-7.html", ["page", 7, "--title", TITLE]), ("save-sheet", "sheet-7.txt", ["sheet", 7]),
           ("form declaration", "declaration-7.html", ["forms", "declaration", 7]))
@@ -292,14 +290,11 @@ def counted(officer, ward):
         officer.click(step).yes(said="Done")
     raise Wrong(f"ward {ward} isn't declared")
 
-def give_out(officer, ward, **fields):
-    officer.go("batches", ward).value("(document.getElementById('give').open = true)")
-    officer.fill("give", **fields).send()
-
 def refused(officer, _):
     """A script of batches is refused halfway, and the rest goes to the tellers whose turn it is. A file is too large."""
     officer.evening.another(ward_orders((3, 10, 4, 9), candidates=numbered(4), ward=1, name="A"))
-    give_out(officer.log_in(), 1, **{"from": 1}, count=4, size=10, last=7, clerks="4 9 5 6 7 8")
+    officer.log_in().go("batches", 1).value("(document.getElementById('give').open = true)")
+    officer.fill("give", **{"from": 1}, count=4, size=10, last=7, clerks="4 9 5 6 7 8").send()
     officer.yes("4 batches, 37 papers", said="line 3: refused 8: batch exists").pictured("46-refused")
     officer.until("document.getElementById('give-clerks').value === '7 8 4 9 5 6'")
     left = [officer.value(f"document.getElementById('give-{field}').value") for field in ("from", "count", "size", "last")]
