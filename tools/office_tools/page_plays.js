@@ -44,6 +44,7 @@ class Window {
     window.fetch = (address, options) => this.fetched(address.replace(window.location.origin, ''), options);
     window.setTimeout = (act, wait) => (wait ? this.timers.set(act, this.now + wait) && act : setImmediate(act));
     window.clearTimeout = (timer) => this.timers.delete(timer);
+    window.Date.now = () => Date.UTC(2027, 4, 6, 21) + this.now;
   }
 
   async fetched(target, {method = 'GET', body, ...rest}) {
@@ -85,9 +86,15 @@ class Window {
     await this.settle(wanted);
   }
 
-  async click(id, wanted) {
-    assert.equal(this.at(id).closest('[hidden]'), null, `${id} isn\u2019t shown`);
-    this.at(id).click();
+  found(id) { return this.at(id).closest('[hidden]') ? assert.fail(`${id} isn\u2019t shown`) : this.at(id); }
+
+  // Clicks one button, or several, one after another.
+  async click(names, wanted) {
+    for (const name of [names].flat()) {
+      assert.ok(!this.found(name).disabled, `${name} is disabled`);
+      this.found(name).click();
+      await settled();
+    }
     await this.settle(wanted);
   }
 
@@ -204,8 +211,7 @@ const CLERK_PLAYS = {
     assert.deepEqual([keying, more], [{target: '/clerks/4/batches/12/keying', round: 1, papers: PAPERS}, []]);
     assert.match(id, /^page-12-1-[a-z0-9]{16}$/);
     window.sees({said: /^The office has kept it: batch 12 round 1 keyed/, drafts: []});
-    await window.click('leave');
-    await window.click('go-away');
+    await window.click(['leave', 'go-away']);
     assert.match(window.document.body.textContent, /Clerk 4 has left/);
     const asked = window.asked.map(({method, target, redirect, cache}) => `${method} ${target} ${redirect} ${cache}`);
     const own = /^(GET \/clerks\/4\/(work|leave|batches\/12\/candidates)|POST \/clerks\/4\/batches\/12\/keying) error no-store$/;
@@ -384,8 +390,8 @@ const CLERK_PLANTED = {
   'the script ends in an error': ['at(\'who\').textContent', 'at(\'whom\').textContent'],
 };
 
-const COUNTS = {batches: 2, candidates: 2, differing: 0, doubtful_open: 0, seats: 1, stages: 0, taken: 2};
-const WARD = {...COUNTS, elected: [], name: 'Harbour', phase: 'keying', ward: 7};
+const WARD = {batches: 2, candidates: 2, differing: 0, doubtful_open: 0, elected: [], name: 'Harbour', phase: 'keying', seats: 1, stages: 0,
+  taken: 2, ward: 7};
 const PAIR = [{candidate: 1, name: 'Ann'}, {candidate: 2, name: 'Bob <b>'}];
 const TAKEN = {clerks: [{clerk: 4, keyed: true}, {clerk: 9, keyed: true}], doubtful_open: 0, round: 1, size: 5, standing: 'taken'};
 const batch = (number, twin = 0) => ({...TAKEN, batch: number, twin});
@@ -426,20 +432,11 @@ class Console extends Window {
   }
 
   has(key) { return all(this.document, '[data-key]').find((it) => it.dataset.key === key && !it.closest('[hidden]')); }
-  found(key) { return this.has(key) ?? assert.fail(`the console shows no ${key}`); }
+  found(key) { return this.has(key) ?? super.found(key); }
 
-  async push(keys, wanted) {
-    for (const key of [keys].flat()) {
-      assert.equal(this.found(key).disabled, false, `${key} is disabled`);
-      this.found(key).click();
-      await settled();
-    }
-    await this.settle(wanted);
-  }
-
-  // Pushes a button, and answers the question whether it is meant.
+  // Clicks a button, and answers the question whether it is meant.
   async order(key, wanted) {
-    await this.push(key);
+    await this.click(key);
     await this.press(['y'], wanted);
   }
 
@@ -478,10 +475,10 @@ const REPORT = 'replaced v2, judge 13 6: by v3\nleft out a1, advance 7: ward 7 c
 // A window in which a verdict is to be replaced, and a keying left out.
 const mending = async (page, ...orders) => {
   const window = await atDesk(page, {receipts: [...RECEIPTS], orders: [[JOURNAL], ...orders]});
-  await window.push(['tab journal', 'right v2', 'replace v2']);
+  await window.click(['tab journal', 'right v2', 'replace v2']);
   assert.equal(window.found('rest v2').value, 'reject:4');
   await window.type('rest v2', 'accept:,1');
-  await window.push('right 4:v2');
+  await window.click('right 4:v2');
   assert.ok(!window.has('replace 4:v2'), 'nobody keys in a teller\u2019s place');
   await window.type('mended-name', 'town-5.db');
   return window;
@@ -493,9 +490,9 @@ const CONSOLE_PLAYS = {
   'a ward is sealed once it was read back': play(atDesk, [
     {batches: [batch(12), batch(15)], orders: [['ward 7 sealed\n']]}], async (window) => {
     await window.pass(3, {steps: /All batches agreed, all doubtful papers judged: seal the ward/});
-    await window.push('tab count');
+    await window.click('tab count');
     await window.type('expected-seal', '10', {'count-now': /All expected papers were given out: 10/});
-    await window.push('seal', {question: /^Seal Ward 7 Harbour\?(?![^]*(same papers|Some checks failed))/, sent: []});
+    await window.click('seal', {question: /^Seal Ward 7 Harbour\?(?![^]*(same papers|Some checks failed))/, sent: []});
     await window.click('ask-no', {question: '', sent: []});
     await window.order('seal', {sent: [['seal', '--id', 'ID', '--', '7']], result: /Done: seal ward 7/});
     assert.deepEqual(window.office.orders, []);
@@ -504,15 +501,15 @@ const CONSOLE_PLAYS = {
     {batches: [batch(12, 15), batch(15, 12), batch(16), batch(18, 12), batch(20, 31)], ward: {batches: 5, taken: 5}}], async (window) => {
     const named = /Batches 12, 15 and 18 have the same papers. Batches 20 and 31 have the same papers/;
     await window.pass(3, {steps: named});
-    await window.push('step count 7', {sent: []});
+    await window.click('step count 7', {sent: []});
     assert.match(window.warning('count-now'), named);
     await window.type('expected-seal', '25');
-    await window.push('seal', {question: named, 'ask-yes': 'Seal anyway (Y)'});
+    await window.click('seal', {question: named, 'ask-yes': 'Seal anyway (Y)'});
     assert.match(window.question(), /its papers count twice/);
     assert.doesNotMatch(window.question(), /Some checks failed/);
   }),
   'orders read back are put right in a new office, and its report is shown as it is': play(mending, [[REPORT]], async (window) => {
-    await window.push('make-mended');
+    await window.click('make-mended');
     const wishes = /judge 13 6 \(batch 13 paper 6 rejected 4\): replaced by judge 13 6 accept:,1Teller 4, v2: key 13 1/;
     assert.match(window.question(), new RegExp(`^Make the new office town-5\\.db\\? .*${wishes.source}`));
     await window.click('ask-no', {sent: [['journal']]});
@@ -522,17 +519,17 @@ const CONSOLE_PLAYS = {
     window.office.receipts.push({actor: 9, id: 'k9', reply: 'batch 13 round 1 keyed', subject: 'key 13 1'});
     await window.pass(3, {mending: /lacks what was accepted here since it was made: 1 order\./});
     const later = await window.another({receipts: window.office.receipts});
-    await later.push('tab journal', {report: REPORT});
-    await later.push(['close-mended', 'forget-wishes'], {mending: '', sent: []});
+    await later.click('tab journal', {report: REPORT});
+    await later.click(['close-mended', 'forget-wishes'], {mending: '', sent: []});
   }),
   'what takes the place of an order is what the journal has of it': play(atDesk, [
     {receipts: RECEIPTS, orders: [[JOURNAL], ['', NOT_MENDED]]}], async (window) => {
-    await window.push('tab journal');
+    await window.click('tab journal');
     for (const [name, rest] of [['w1', '1 "--id w1"'], ['c1', '-- "-Ann  \u00e9"']]) {
-      await window.push([`right ${name}`, `replace ${name}`]);
+      await window.click([`right ${name}`, `replace ${name}`]);
       assert.equal(window.found(`rest ${name}`).value, rest);
     }
-    await window.push('right a1');
+    await window.click('right a1');
     assert.ok(!window.has('replace a1'), 'a stage can\u2019t be replaced');
     await window.type('mended-name', 'town-5.db');
     await window.order('make-mended');
@@ -544,7 +541,7 @@ const CONSOLE_PLAYS = {
     for (const [key, text] of [['mended-name', 'a/b.db'], ['mended-name', '-b.db'], ['mended-name', ''], ['rest v2', ' ']]) {
       const {value} = window.found(key);
       await window.type(key, text);
-      await window.push('make-mended', {question: '', sent: [['journal']], result: /No office was made/});
+      await window.click('make-mended', {question: '', sent: [['journal']], result: /No office was made/});
       await window.type(key, value);
     }
   }),
@@ -570,12 +567,12 @@ const CONSOLE_PLAYS = {
       ['count', 'declaration', {ward: {phase: 'declared', elected: [1]}, next: {step: 'nothing'}}, read],
     ]) {
       const window = await atDesk(page, {...parts, orders: [...before, [`<html>${form}</html>`]]});
-      await window.push([`tab ${part}`, `form ${form}`]);
+      await window.click([`tab ${part}`, `form ${form}`]);
       assert.deepEqual([window.sent().at(-1), window.saved], [['forms', form, '7'], [[`${form}-7.html`, `<html>${form}</html>`]]]);
     }
     const window = await atDesk(page, {ward: {batches: 0, taken: 0}});
     for (const part of ['batches', 'doubtful']) {
-      await window.push(`tab ${part}`);
+      await window.click(`tab ${part}`);
       assert.ok(!window.has('form covers') && !window.has('form adjudication'), 'a form of nothing is offered');
     }
   },
@@ -620,12 +617,6 @@ class Screen extends Window {
     const ward = wards.find(({count}) => count.ward === Number(number));
     if (!ward || !(what === 'sheet' ? ['sealed', 'declared'] : ['declared']).includes(ward.phase)) return {status: 409, says: {refusal: 9}};
     return {status: 200, says: what === 'sheet' ? ward.count.sheets[ward.stages] : ward.count.declaration};
-  }
-
-  prepare(window, storage) {
-    super.prepare(window, storage);
-    const begun = Date.UTC(2027, 4, 6, 21, 0, 0);
-    window.Date.now = () => begun + this.now;
   }
 
   // Lets seconds pass one by one.

@@ -101,9 +101,6 @@ class Player(Browser):
         self.evening = evening
         self.resize(*self.SIZES[0])
 
-    def complaints(self):
-        return [line for line in self.said() if not re.search(self.EXPECTED, line)]
-
     def shows(self, words, part="result"):
         self.until(f"document.getElementById('{part}')?.innerText.includes({json.dumps(words)})")
 
@@ -306,7 +303,8 @@ class Evening:
         if strange := {line for line in self.line.asked if not any(player.ASKED.fullmatch(line) for player in players)}:
             raise Wrong(f"a page asked {strange}")
         for player in players:
-            wrong_if(strange := player.complaints(), f"the browser said {strange[:5]}")
+            strange = [line for line in player.said() if not re.search(player.EXPECTED, line)]
+            wrong_if(strange, f"the browser said {strange[:5]}")
 
 @contextlib.contextmanager
 def played(pictures, *players, office=lambda folder: Office(folder).begin(), words=("--codes", "codes.txt")):

@@ -48,19 +48,17 @@ class Function:
         above = itertools.takewhile(lambda it: it.startswith(("//", "#[")), map(str.strip, reversed(source.split("\n")[:self.line - 1])))
         self.comment = "\n".join(reversed([it.lstrip("/").strip() for it in above if it.startswith("//")]))
 
-def functions_in(path, source):
-    """Returns the functions of a source file, in its order; those of `mod tests` at its end left out."""
-    # Comments and literals are blanked, each in its length.
-    text = NOISE.sub(lambda found: re.sub(r"[^\n]", " ", found[0]), source)
-    return [Function(path, source, found) for found in FUNCTION.finditer(text[:TESTS.search(text).start()])]
-
 class Crate:
     """A crate's sources: texts by path below its folder, functions, the fields of each record of specs/, and wrong bodies by name."""
 
     def __init__(self, folder):
         self.name, self.folder = folder.name, folder
         self.texts = {str(path.relative_to(folder)): path.read_text() for path in sorted((folder / "src").rglob("*.rt"))}
-        self.functions = [f for path, text in self.texts.items() for f in functions_in(path, text)]
+        self.functions = []
+        for path, source in self.texts.items():
+            # Comments and literals are blanked, each in its length, and `mod tests` at the end is left out.
+            text = NOISE.sub(lambda found: re.sub(r"[^\n]", " ", found[0]), source)
+            self.functions += [Function(path, source, found) for found in FUNCTION.finditer(text[:TESTS.search(text).start()])]
         specs = "\n".join(path.read_text() for path in sorted(folder.glob("specs/**/*.antt"))) + "\n"
         records = re.findall(r"^( *)pub record (\w+)[^\n]* where\n((?:\1  [^\n]*\n)+)", specs, re.M)
         self.records = {name: re.findall(rf"^{blanks}  pub (\w+) :", lines, re.M) for blanks, name, lines in records}

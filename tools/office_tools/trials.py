@@ -35,27 +35,15 @@ class Trial:
         self.folder, self.office, self.order, self.number = Path(folder), office, order, number
         after = office.copied(self.folder / "after")
         self.printed = order.done(after)
-        self.is_copy, self.is_script = order.words[0] == "copy", order.words[0] == "replay"
-        self.states = [left(office), *self.between()]
+        self.is_copy, self.is_script, self.states = order.words[0] == "copy", order.words[0] == "replay", [left(office)]
+        if self.is_script or order.words[0] in ("import-candidates", "import-batches"):
+            # What it leaves after each of its records but the last.
+            for count in range(2, len(order.lines)):
+                part = office.copied(self.folder / "part")
+                Order(order.words, order.lines[:count]).done(part)
+                self.states.append(left(part))
         if left(after) != self.states[0]:
             self.states.append(left(after))
-
-    def between(self):
-        """Yields what an order of several records leaves after each but the last."""
-        if self.is_script or self.order.words[0] in ("import-candidates", "import-batches"):
-            for count in range(2, len(self.order.lines)):
-                part = self.office.copied(self.folder / "part")
-                Order(self.order.words, self.order.lines[:count]).done(part)
-                yield left(part)
-
-    def allowed(self, out, faults):
-        """Returns those of some faults that may be printed after an output; a script names the line that was under way."""
-        if self.is_copy and out:
-            return [fault for fault in faults if fault == NOT_WRITTEN]
-        if self.is_script:
-            line = f"line {2 + self.order.replies(out)}: "
-            return [line + fault for fault in faults] + ([] if out else faults)
-        return faults
 
     def is_fault(self, printed, faults):
         """Returns whether what was printed is one of some faults."""
@@ -68,15 +56,12 @@ class Trial:
             return bool(answered) and any(fault.startswith(f"fault {answered[1]}: ") and err in ("", fault + "\n") for fault in faults)
         has_parts = len(self.states) > 2 or self.is_copy or self.order.words[0] == "count"
         whole_lines = out == "" or (has_parts and out.endswith("\n") and self.printed.out.startswith(out))
-        return status == 3 and whole_lines and any(re.fullmatch(fault + "\n", err) for fault in self.allowed(out, faults))
-
-    def place_of(self, printed, found):
-        """Returns the number of the state that was found: the last one if the order was answered."""
-        wrong_if(found not in self.states, f"other rows: {printed}")
-        place, last = self.states.index(found), len(self.states) - 1
-        wrong_if(place != last and (printed == self.printed or printed.out == self.printed.out != ""), f"answered, and lost: {printed}")
-        wrong_if(place < min(last, self.order.replies(printed.out)), f"{place} of {last} records found: {printed}")
-        return place
+        if self.is_copy and out:
+            faults = [fault for fault in faults if fault == NOT_WRITTEN]
+        if self.is_script:
+            # It names the line that was under way.
+            faults = [f"line {2 + self.order.replies(out)}: {fault}" for fault in faults] + ([] if out else faults)
+        return status == 3 and whole_lines and any(re.fullmatch(fault + "\n", err) for fault in faults)
 
     def check_beside(self, office, printed, keeps):
         """Checks that nothing is next to the office but a copy that was reported, or what may be kept of one: all of it, or no office."""
@@ -97,8 +82,10 @@ class Trial:
     def judged(self, here, printed, keeps, is_right):
         """Judges what an order that was stopped printed and left, and gives it again. Returns the number of the state that was found."""
         self.check_beside(here, printed, keeps)
-        place = self.place_of(printed, left(here, printed.status))
-        wrong_if(not is_right(place), f"printed {printed}, and {place} of {len(self.states) - 1} records are found")
+        wrong_if((found := left(here, printed.status)) not in self.states, f"other rows: {printed}")
+        place, last = self.states.index(found), len(self.states) - 1
+        wrong_if(place != last and (printed == self.printed or printed.out == self.printed.out != ""), f"answered, and lost: {printed}")
+        wrong_if(place < min(last, self.order.replies(printed.out)) or not is_right(place), f"{place} of {last} records found: {printed}")
         self.check_again(here, printed, place)
         return place
 

@@ -142,17 +142,7 @@ def check_plain():
     return any(found) or bool(named)
 
 RESULTS, LAST = ROOT / "docs/engineering/results.md", "**Last run**"
-HEAD = """# Results
 
-What the tools printed when they were last run. [Testing](testing.md) and [Cost](cost.md) say what the tables show. `tools/check results \
---write` makes this page.
-
-`--help` after the name of a tool prints what it requires of every run, with the words that it accepts; so does its file. \
-A run ends with status 1 if a condition isn't met, and draws whatever it draws at random from a seed.
-
-*Rows before it found* means that the file has the rows before the order, and *rows after it* those that the order makes. A column such as \
-*fault 102* counts the runs in which the program reports [that fault](../officer/when-it-says-no.md#faults).
-"""
 def section(tool, result):
     """Returns the section of a tool, such as `tools/try killed`, or nothing if there is none of that name."""
     kind, name = re.fullmatch(r"tools/(\w+) ?(\S*)", tool).groups()
@@ -176,15 +166,15 @@ def check_results(*, write=False, of=""):
     results --write --of killed`, the tables that it reads replace those of that tool; lines that aren't of tables are left out.
     """
     there = RESULTS.read_text(encoding="utf-8")
-    sections = re.findall(r"^## `([^`]*)`\n(.*?)(?=^## |\Z)", there, re.S | re.M)
-    results = {tool: text.partition(LAST)[2].strip() for tool, text in sections}
+    head, *sections = re.split(r"^## `([^`]*)`\n", there, flags=re.M)
+    results = {tool: text.partition(LAST)[2].strip() for tool, text in zip(sections[::2], sections[1::2])}
     named = [tool for tool in results if tool.endswith(f" {of}")]
     lost = [tool for tool, result in results.items() if not section(tool, result)] or [of] * (of != "" and not named)
     if lost:
         return [f"{RESULTS.name}: {tool} is no tool, or has no result" for tool in lost]
     if of:
         results[named[0]] = replaced(results[named[0]], sys.stdin.read())
-    made = HEAD + "".join(section(*found) for found in results.items())
+    made = head.rstrip("\n") + "\n" + "".join(section(*found) for found in results.items())
     if write:
         RESULTS.write_text(made, encoding="utf-8")
     return [f"{RESULTS.name}: not what the tools say; run tools/check results --write"] * (made != there and not write)
@@ -279,16 +269,6 @@ def printed_by(*words):
     ran = subprocess.run([ROOT / "release/package/count-office-lan", "--print", *words], capture_output=True, text=True)
     return ran.returncode, ran.stdout, ran.stderr
 
-def wrongly_answered():
-    cases = [((name, "--network", NETWORK), name in ACCEPTED) for name in ACCEPTED + REFUSED]
-    cases += [((NAME, "--network", network), is_one) for network, is_one in NETWORKS.items()]
-    cases += [((NAME, "--network", NETWORK, "--port", port), is_one) for port, is_one in PORTS.items()]
-    cases += [((NAME, *words), False) for words in ([], ["other", "--network", NETWORK], ["--remove"], ["--more"], ["--port"])]
-    for words, is_accepted in cases:
-        status, out, err = printed_by(*words)
-        if (status, bool(out)) != ((0, True) if is_accepted else (2, False)) or is_accepted == err.startswith("count-office-lan: "):
-            yield f"count-office-lan --print {' '.join(words)}: status {status}, {err}"
-
 def check_lan():
     """Compares the configuration of nginx that count-office-lan writes with that of docs/officer/network.md, and tries wrong words.
 
@@ -296,6 +276,14 @@ def check_lan():
     """
     page = re.search(r"```nginx\n(.*?)```", (ROOT / "docs/officer/network.md").read_text(encoding="utf-8"), re.DOTALL)[1]
     own = OWN.sub(lambda path: DOCUMENTED[path[1]], printed_by(NAME, "--network", NETWORK, "--port", "8080")[1])
-    differing = [f"docs/officer/network.md has the line {theirs!r}, and count-office-lan {ours!r}"
-                 for theirs, ours in itertools.zip_longest(page.split("\n"), own.split("\n")) if theirs != ours]
-    return [*differing[:1], *wrongly_answered()]
+    faults = [f"docs/officer/network.md has the line {theirs!r}, and count-office-lan {ours!r}"
+              for theirs, ours in itertools.zip_longest(page.split("\n"), own.split("\n")) if theirs != ours][:1]
+    cases = [((name, "--network", NETWORK), name in ACCEPTED) for name in ACCEPTED + REFUSED]
+    cases += [((NAME, "--network", network), is_one) for network, is_one in NETWORKS.items()]
+    cases += [((NAME, "--network", NETWORK, "--port", port), is_one) for port, is_one in PORTS.items()]
+    cases += [((NAME, *words), False) for words in ([], ["other", "--network", NETWORK], ["--remove"], ["--more"], ["--port"])]
+    for words, is_accepted in cases:
+        status, out, err = printed_by(*words)
+        if (status, bool(out)) != ((0, True) if is_accepted else (2, False)) or is_accepted == err.startswith("count-office-lan: "):
+            faults.append(f"count-office-lan --print {' '.join(words)}: status {status}, {err}")
+    return faults

@@ -244,13 +244,6 @@ class Pair:
             wrong_if([order.done(here), left(here)] != wanted, f"{order.words}, given again, isn't {wanted}")
         return what
 
-def print_pairs(folder, before, runs, chance):
-    table = Table(f"Two orders at once ({runs} runs each)", "both answered", *(f"one: fault {word}" for word in FAULTS))
-    for what, number, *orders in PAIRS:
-        pair = Pair(folder, before[number], *orders)
-        found = [pair.tried(chance) for _ in range(runs)]
-        table.row(what, *map(found.count, ("both", *FAULTS)))
-
 def taken(folder, before, names, is_replaced, chance):
     """Takes files while an order runs, which is answered, or reports a fault. Another office's file may get the order, and no other."""
     order, office, other = ELECTION[KEYINGS], before[KEYINGS], before[2].copied(folder / "other")
@@ -273,13 +266,6 @@ def taken(folder, before, names, is_replaced, chance):
         allowed[2] = (elsewhere, office.rows(), there.rows())
     wrong_if((printed, found, at) not in allowed, f"{names} taken from an order: {printed}, or other rows")
     return kind(printed)
-
-def print_taken(folder, before, runs, chance):
-    table = Table("What is done to the file and its log while an order runs", "runs", "answered", *(f"fault {word}" for word in FAULTS[:2]))
-    for what, *how in (("both removed", [TOWN, LOG], False), ("the log removed", [LOG], False),
-                       ("the file replaced", [TOWN], True), ("both replaced", [TOWN, LOG], True)):
-        found = [taken(folder, before, *how, chance) for _ in range(runs)]
-        table.row(what, runs, *map(found.count, ("answered", *FAULTS[:2])))
 
 # How long another order may wait for the one that stopped, which then continues.
 STUCK, NO_ROOM = 0.4, ["prlimit", "--fsize=40960"]
@@ -365,8 +351,16 @@ def try_shared_files(runs=100, seed=7):
     chance = random.Random(seed)
     with temporary_folder() as folder:
         before = offices(folder)
-        print_pairs(folder, before, runs, chance)
-        print_taken(folder, before, runs, chance)
+        table = Table(f"Two orders at once ({runs} runs each)", "both answered", *(f"one: fault {word}" for word in FAULTS))
+        for what, number, *orders in PAIRS:
+            pair = Pair(folder, before[number], *orders)
+            found = [pair.tried(chance) for _ in range(runs)]
+            table.row(what, *map(found.count, ("both", *FAULTS)))
+        table = Table("What is done to the file and its log while an order runs", "runs", "answered", "fault 102", "fault 105")
+        for what, *how in (("both removed", [TOWN, LOG], False), ("the log removed", [LOG], False),
+                           ("the file replaced", [TOWN], True), ("both replaced", [TOWN, LOG], True)):
+            found = [taken(folder, before, *how, chance) for _ in range(runs)]
+            table.row(what, runs, *map(found.count, ("answered", "102", "105")))
         print_gaps(folder, before, runs, chance)
         print_rights(folder, before)
 
