@@ -28,14 +28,6 @@ def nominated(folder, *batches):
     candidates = [f"Candidate {c}" for c in range(1, CANDIDATES + 1)]
     return Office(folder).begin(ward_orders(*batches, candidates=candidates, seats=SEATS, ward=8, name="Quay"))
 
-def keyed_ward(folder, count):
-    chance, batches = random.Random(7), range(100, 100 + count // BATCH)
-    office = nominated(folder, *((batch, BATCH, 4, 9) for batch in batches))
-    for batch in batches:
-        office.write(f"{batch}.csv", keying(papers(chance, BATCH), range(1, CANDIDATES + 1)))
-    office.replay([f"import-keying {clerk} {batch} 1 {batch}.csv --id k{batch}" for batch in batches for clerk in (4, 9)])
-    return office
-
 def best(office, order, is_served=False):
     found = []
     for _ in range(RUNS):
@@ -48,8 +40,12 @@ def best(office, order, is_served=False):
 
 def measured(count):
     reads = [*READS, (SCRIPTED[0], REPLAY), (END, COPYING)]
+    chance, batches = random.Random(7), range(100, 100 + count // BATCH)
     with temporary_folder() as folder:
-        office = keyed_ward(folder / "town", count)
+        office = nominated(folder / "town", *((batch, BATCH, 4, 9) for batch in batches))
+        for batch in batches:
+            office.write(f"{batch}.csv", keying(papers(chance, BATCH), range(1, CANDIDATES + 1)))
+        office.replay([f"import-keying {clerk} {batch} 1 {batch}.csv --id k{batch}" for batch in batches for clerk in (4, 9)])
         found = {"`init`": f"{best(Office(folder / 'empty'), ELECTION[0]):.0f} ms"}
         for number, order in enumerate([*ELECTION[1:], *LARGE], 1):
             for one in (*(read for place, read in reads if place == number), order):
@@ -87,16 +83,12 @@ def office_to_key(folder, rounds, size):
         batches.append((number, size, clerk, 999))
     return nominated(folder, *batches), requests
 
-def asked(serving, sends):
-    text, seconds = timed(serving.ask, sends)
-    wrong_if(status(text) != 200, f"{sends[:200]}: {text}")
-    return seconds
-
 def keyed(serving, requests):
     """Has clerks key at once. Returns how many keyings are answered a second, and how long the slowest took, in ms."""
     with ThreadPoolExecutor(len(requests)) as pool:
-        found, seconds = timed(list, pool.map(lambda own: [asked(serving, sends) for sends in own], requests))
-    times = [took for times in found for took in times]
+        found, seconds = timed(list, pool.map(lambda own: [timed(serving.ask, sends) for sends in own], requests))
+    texts, times = zip(*itertools.chain(*found))
+    wrong_if(wrong := [text for text in texts if status(text) != 200], f"a keying is answered by {wrong[:1]}")
     return len(times) / seconds, 1000 * max(times)
 
 def reads_a_second(port, clients, seconds):
@@ -176,15 +168,6 @@ def voted(size, columns, chance):
         papers.append(chance.choice(["D", "," * (columns - 1), ",12" + "," * (columns - 2)] + 30 * [",".join(fields)]))
     return papers
 
-def print_keys(papers):
-    # In a spreadsheet Tab moves on, and Enter ends the row.
-    plain, numbers = sum(len(text.rstrip(",")) + 1 for text in papers), sum(len(str(number + 1)) + 1 for number in range(len(papers)))
-    counts = {"the page": sum(len(keys_of(text)) for text in papers), "a spreadsheet, the papers' numbers typed": plain + numbers,
-              "a spreadsheet, the numbers filled in before": plain}
-    table = Table("50 papers of 5 candidates", "keys", "a paper", "at three keys a second")
-    for what, count in counts.items():
-        table.row(what, count, f"{count / len(papers):.1f}", f"{count / 3:.0f} s")
-
 def bench_rounds(*, finds=0.9, takes=1 / 3):
     """Computes how many keys a paper takes, and how often each is keyed until its batch is taken.
 
@@ -198,4 +181,9 @@ def bench_rounds(*, finds=0.9, takes=1 / 3):
         read = gone_through(rate, size, finds, takes)
         table.row(f"{rate:.1%}", size, f"{keyed_anew(rate, size):.1f}", f"{read:.2f}", f"{1 - (1 - rate) ** (2 * size):.0%}")
         wrong_if((size, rate) == RECOMMENDED and read > MOST, f"batches of {size} take {read:.2f} keyings' time a paper, more than {MOST}")
-    print_keys(voted(50, 5, random.Random(11)))
+    papers, table = voted(50, 5, random.Random(11)), Table("50 papers of 5 candidates", "keys", "a paper", "at three keys a second")
+    # In a spreadsheet Tab moves on, and Enter ends the row.
+    plain, numbers = sum(len(text.rstrip(",")) + 1 for text in papers), sum(len(str(number)) + 1 for number, _ in enumerate(papers, 1))
+    for what, count in (("the page", sum(map(len, map(keys_of, papers)))), ("a spreadsheet, the papers' numbers typed", plain + numbers),
+                        ("a spreadsheet, the numbers filled in before", plain)):
+        table.row(what, count, f"{count / len(papers):.1f}", f"{count / 3:.0f} s")

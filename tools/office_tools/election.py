@@ -71,9 +71,8 @@ class Order:
 def election(copies=1):
     """Returns the orders of an election of two seats, with nine valid papers, or so many copies of them, and a doubtful one.
 
-    The batch is given out once more by a file, under the id that it has, which does nothing. The first candidate has the quota, the
-    fourth is excluded, and a lot is drawn between the two others. The second clerk errs once; a third one is set, and all three may
-    key again.
+    The batch is given out once more by a file, under the id that it has, which does nothing. The first candidate has the quota, the fourth
+    is excluded, and a lot is drawn between the two others. The second clerk errs once; a third one is set, and all may key again.
     """
     papers = (["1,,,"] * 4 + [",1,,", ",1,,2", ",,1,", ",,1,", ",,,1"]) * copies + ["D"]
     right, wrong, size = keying(papers, range(1, 5)), keying(["1,2,,", *papers[1:]], range(1, 5)), len(papers)
@@ -124,11 +123,6 @@ def make_older(path):
     with contextlib.closing(sqlite3.connect(path)) as database:
         database.execute("PRAGMA journal_mode = wal")
         database.executescript("BEGIN;\n" + ";\n".join(statements) + ";\nCOMMIT;\n")
-
-def earlier_office(folder):
-    office = Office(folder)
-    make_older(office.folder / TOWN)
-    return office
 
 TITLE = "Election of 6 May 2027, Harbour Council"
 CODES = {4: "kf7m-2wxt-h4dn", 9: "w3hd-4psn-7kfr"}

@@ -299,13 +299,6 @@ class Evening:
         self.office = Office(self.folder / folder).begin(orders, seconds=900)
         self.start()
 
-    def check(self, players):
-        if strange := {line for line in self.line.asked if not any(player.ASKED.fullmatch(line) for player in players)}:
-            raise Wrong(f"a page asked {strange}")
-        for player in players:
-            strange = [line for line in player.said() if not re.search(player.EXPECTED, line)]
-            wrong_if(strange, f"the browser said {strange[:5]}")
-
 @contextlib.contextmanager
 def played(pictures, *players, office=lambda folder: Office(folder).begin(), words=("--codes", "codes.txt")):
     """Begins an evening with people at browsers, each made from the evening, and checks how it ended."""
@@ -317,6 +310,10 @@ def played(pictures, *players, office=lambda folder: Office(folder).begin(), wor
             try:
                 there = [open_browsers.enter_context(player(evening)) for player in players]
                 yield there
-                evening.check(there)
+                asked = {line for line in evening.line.asked if not any(player.ASKED.fullmatch(line) for player in there)}
+                wrong_if(asked, f"a page asked {asked}")
+                for player in there:
+                    strange = [line for line in player.said() if not re.search(player.EXPECTED, line)]
+                    wrong_if(strange, f"the browser said {strange[:5]}")
             finally:
                 evening.server.kill()

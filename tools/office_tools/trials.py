@@ -5,8 +5,8 @@ from concurrent.futures import ThreadPoolExecutor
 from pathlib import Path
 
 from office_tools.election import (
-    COPY, COPY_LOG, COPYING, ELECTION, FILE, MADE, READS, REPLAY, REQUESTS, SCRIPTED, Order, earlier_office, offices)
-from office_tools.office import LOG, NO_OFFICE, SCRIPT, TOWN, Wrong, remove, wrong_if
+    COPY, COPY_LOG, COPYING, ELECTION, FILE, MADE, READS, REPLAY, REQUESTS, SCRIPTED, Order, make_older, offices)
+from office_tools.office import LOG, NO_OFFICE, SCRIPT, TOWN, Office, Wrong, remove, wrong_if
 
 NOT_WRITTEN = "fault 110: copy not written"
 # What `serve` prints besides, if it can't make its socket. Clients are served all the same.
@@ -46,7 +46,6 @@ class Trial:
             self.states.append(left(after))
 
     def is_fault(self, printed, faults):
-        """Returns whether what was printed is one of some faults."""
         status, out, err = printed
         if self.order.sends and not status:
             if not out and not err:
@@ -123,8 +122,9 @@ class Trial:
 def trials(folder, name="", orders=None):
     """Returns the trials of the election, or those of the orders of one name, each on the office before its order."""
     folder, is_small, orders = Path(folder), orders is None, orders or ELECTION
-    before = offices(folder, orders)
-    wanted = list(zip(before, orders)) + [(earlier_office(folder / "older"), Order(["migrate"]))]
+    before, older = offices(folder, orders), Office(folder / "older")
+    make_older(older.folder / TOWN)
+    wanted = [*zip(before, orders), (older, Order(["migrate"]))]
     if is_small:
         wanted += [(before[number], order) for number, order in READS + REQUESTS]
     wanted += [(before[-1], COPYING), (before[SCRIPTED[0]], REPLAY)]

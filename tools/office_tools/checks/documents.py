@@ -35,20 +35,18 @@ def lost(page):
         if not to.exists() or heading and (to.suffix != ".md" or heading not in headings(to)):
             yield f"{page.relative_to(ROOT)}: no file or heading of {target}"
 
-def unlinked():
-    text = "\n".join(page.read_text(encoding="utf-8") for page in GUIDE)
-    linked = [target.removeprefix(MESSAGES) for target in LINK.findall(text) if target.startswith(MESSAGES)]
-    for found in sorted({found for block in FENCED.findall(text) for found in PRINTED.findall(block[2])}):
-        if not any(heading.startswith(found.replace(" ", "-") + "-") for heading in linked):
-            yield f"the guide: no link for {found}"
-
 def check_links():
     """Compares the links of the pages with what they lead to.
 
     A link within the repository leads to a file that is there, and what comes after its # is a heading of that page. Each refusal, file
     fault and fault that the pages of GUIDE show as printed has a link there to its own heading in docs/officer/when-it-says-no.md.
     """
-    return [*(fault for page in pages() for fault in lost(page)), *unlinked()]
+    yield from (fault for page in pages() for fault in lost(page))
+    text = "\n".join(page.read_text(encoding="utf-8") for page in GUIDE)
+    linked = [target.removeprefix(MESSAGES) for target in LINK.findall(text) if target.startswith(MESSAGES)]
+    for found in sorted({found for block in FENCED.findall(text) for found in PRINTED.findall(block[2])}):
+        if not any(heading.startswith(found.replace(" ", "-") + "-") for heading in linked):
+            yield f"the guide: no link for {found}"
 
 MOST, LEAST, MOST_IN_COMMENTS = 30, 4, 40
 SHARES, OTHERS = {5: "README evening by-words when-it-says-no putting-right tellers agents installing network rules glossary",
@@ -229,7 +227,13 @@ def unlike_in_pages(orders, scripted):
     played = (ROOT / "examples/help.sh").read_text(encoding="utf-8").split("for order in ")[1].split("; do")[0]
     yield from unlike("examples/help.sh", played.replace("\\\n", " ").split(), orders)
 
-def differences():
+def check_orders():
+    """Compares what names the orders of the program with the program's own help.
+
+    These are what `--help` tells of the words of orders, and their examples; the tables of orders and of words, with their ranges, in
+    docs/formats/orders.md; the orders that a script may have, in docs/formats/files.md; the orders that examples/help.sh plays; and the
+    election of tools/try, which has each order that a script may have. Which these are, the program tells of a script of one line.
+    """
     commands, listed = helps.listed(program())
     orders = {told.name: Order(told) for told in helps.orders_of(program())}
     yield from unlike("--help", [*commands, *(name for name, _ in listed)], orders)
@@ -244,15 +248,6 @@ def differences():
     played = [order.words for order in (*ELECTION, REPLAY, *(order for _, order in READS))]
     yield from (f"election.py: {words} is no order" for words in played if words[0] not in orders or not orders[words[0]].takes(words))
     yield from (f"election.py: {name} is missing" for name in sorted((scripted | {"init"}) - {words[0] for words in played}))
-
-def check_orders():
-    """Compares what names the orders of the program with the program's own help.
-
-    These are what `--help` tells of the words of orders, and their examples; the tables of orders and of words, with their ranges, in
-    docs/formats/orders.md; the orders that a script may have, in docs/formats/files.md; the orders that examples/help.sh plays; and the
-    election of tools/try, which has each order that a script may have. Which these are, the program tells of a script of one line.
-    """
-    return list(differences())
 
 NAME, NETWORK = "count.example.org", "192.0.2.0/24"
 OWN = re.compile(rf"/etc/nginx/count-office-lan/{re.escape(NAME)}-\d{{8}}\.(pem|key);")
@@ -276,8 +271,10 @@ def check_lan():
     """
     page = re.search(r"```nginx\n(.*?)```", (ROOT / "docs/officer/network.md").read_text(encoding="utf-8"), re.DOTALL)[1]
     own = OWN.sub(lambda path: DOCUMENTED[path[1]], printed_by(NAME, "--network", NETWORK, "--port", "8080")[1])
-    faults = [f"docs/officer/network.md has the line {theirs!r}, and count-office-lan {ours!r}"
-              for theirs, ours in itertools.zip_longest(page.split("\n"), own.split("\n")) if theirs != ours][:1]
+    for theirs, ours in itertools.zip_longest(page.split("\n"), own.split("\n")):
+        if theirs != ours:
+            yield f"docs/officer/network.md has the line {theirs!r}, and count-office-lan {ours!r}"
+            break
     cases = [((name, "--network", NETWORK), name in ACCEPTED) for name in ACCEPTED + REFUSED]
     cases += [((NAME, "--network", network), is_one) for network, is_one in NETWORKS.items()]
     cases += [((NAME, "--network", NETWORK, "--port", port), is_one) for port, is_one in PORTS.items()]
@@ -285,5 +282,4 @@ def check_lan():
     for words, is_accepted in cases:
         status, out, err = printed_by(*words)
         if (status, bool(out)) != ((0, True) if is_accepted else (2, False)) or is_accepted == err.startswith("count-office-lan: "):
-            faults.append(f"count-office-lan --print {' '.join(words)}: status {status}, {err}")
-    return faults
+            yield f"count-office-lan --print {' '.join(words)}: status {status}, {err}"

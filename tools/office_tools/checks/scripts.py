@@ -101,23 +101,20 @@ def made_up(chance):
     gone = [number for number, name in enumerate(names, 1) if number not in ward.names]
     return counted(ward.number, ward.name, ward.seats, names, bundles, rejected, gone)
 
-def run(*words, text):
-    return subprocess.run(["node", *words], env=os.environ | {"NODE_PATH": str(MODULES)}, input=text, text=True, check=False).returncode
-
 def check_script(file: Path = None):
     """Runs the scripts of the pages without a browser, and checks what they show, send and store.
 
     A clerk is denied, lists batches, keys papers and sends them, and the office accepts the keying, refuses it, fails or doesn't answer.
     The screen in the hall shows wards of an office that changes, and that may be down. The officer at the console seals a ward, is warned
     of batches that have the same papers, puts orders right in a new office, and downloads forms; `tools/try console-evening` plays whole
-    evenings there. Then faults are planted in each page, one at a time: its test has to notice each. FILE is a page for clerks as a program
-    serves it.
+    evenings there. Then faults are planted in each page, one at a time, and noticed. FILE is a page for clerks as a program serves it.
     """
     needs("node")
     wrong_if(not (MODULES / "jsdom").exists(), "jsdom is missing; on Debian: apt-get install node-jsdom")
     chance, clerks = random.Random(11), file.read_text(encoding="utf-8") if file else page_of_sources()[0]
     counts = [*(counted(*ward) for ward in WARDS), *(made_up(chance) for _ in range(12))]
+    pages = {"clerks": clerks, "console": page_of_sources(CONSOLE)[0], "screen": page_of_sources(SCREEN)[0]}
     with temporary_folder() as folder:
         (folder / "counts").write_text(json.dumps(counts), encoding="utf-8")
-        pages = {"clerks": clerks, "console": page_of_sources(CONSOLE)[0], "screen": page_of_sources(SCREEN)[0]}
-        return max(run(PLAYS, name, folder / "counts", text=page) for name, page in pages.items())
+        how = {"env": os.environ | {"NODE_PATH": str(MODULES)}, "text": True, "check": False}
+        return max(subprocess.run(["node", PLAYS, name, folder / "counts"], input=page, **how).returncode for name, page in pages.items())

@@ -101,13 +101,6 @@ def table_of(crate):
     head = [f"\n## `{crate.name}`\n", "| function | what it does | clauses | wrong bodies refused |", "|---|---|---|---|"]
     return head + rows if rows else []
 
-def write_table(crates):
-    shown = [function for crate in crates for function in crate.functions if crate.is_shown(function)]
-    clauses, edits = sum(len(function.ensures) for function in shown), sum(len(crate.edits) for crate in crates)
-    lines = [HEAD.rstrip().format(public=len(shown), clauses=clauses, edits=edits), *(line for crate in crates for line in table_of(crate))]
-    MADE.parent.mkdir(exist_ok=True)
-    MADE.write_text("\n".join(lines) + "\n", encoding="utf-8")
-
 def quoted(text):
     return re.findall(r"`([^`]*)`", text)
 
@@ -131,16 +124,6 @@ def missing_of_row(crates, name, where):
             if function not in clauses:
                 yield f"no function {function} in {name}"
             yield from (f"no clause {it} of {function} in {name}" for it in quoted(names) if it not in clauses.get(function, [it]))
-
-def missing_messages():
-    headings, wanted = re.findall(r"^### `(.*)`$", MESSAGES.read_text(), re.M), []
-    for front, file, number, text in NUMBERED:
-        definitions = (ROOT / "crates" / file).read_text()
-        texts = dict(re.findall(rf'^{text} \(?(\w+)[^=\n]*= codes "([^"]*)"$', definitions, re.M))
-        wanted += [front.format(own) + texts[name] for name, own in re.findall(rf"^{number} \(?(\w+)[^=\n]*= (\d+)$", definitions, re.M)]
-    found = [[heading for heading in headings if heading == it or it[-1] == " " and heading.startswith(it)] for it in wanted]
-    yield from (f"no heading {message}" for message, own in zip(wanted, found) if len(own) != 1)
-    yield from (f"no message of the sources is {heading}" for heading in headings if [heading] not in found)
 
 def missing_of_text(line, clauses, words):
     for names, functions in OF.findall(line):
@@ -183,8 +166,20 @@ def check_proofs(*, write=False):
     """
     crates = sources.crates()
     if write:
-        write_table(crates)
-    return [*faults_of(crates), *(f"{MESSAGES.name}: {fault}" for fault in missing_messages())]
+        shown = [function for crate in crates for function in crate.functions if crate.is_shown(function)]
+        clauses, edits = sum(len(function.ensures) for function in shown), sum(len(crate.edits) for crate in crates)
+        head = HEAD.rstrip().format(public=len(shown), clauses=clauses, edits=edits)
+        MADE.parent.mkdir(exist_ok=True)
+        MADE.write_text("\n".join([head, *(line for crate in crates for line in table_of(crate))]) + "\n", encoding="utf-8")
+    yield from faults_of(crates)
+    headings, wanted = re.findall(r"^### `(.*)`$", MESSAGES.read_text(), re.M), []
+    for front, file, number, text in NUMBERED:
+        definitions = (ROOT / "crates" / file).read_text()
+        texts = dict(re.findall(rf'^{text} \(?(\w+)[^=\n]*= codes "([^"]*)"$', definitions, re.M))
+        wanted += [front.format(own) + texts[name] for name, own in re.findall(rf"^{number} \(?(\w+)[^=\n]*= (\d+)$", definitions, re.M)]
+    found = [[heading for heading in headings if heading == it or it[-1] == " " and heading.startswith(it)] for it in wanted]
+    yield from (f"{MESSAGES.name}: no heading {message}" for message, own in zip(wanted, found) if len(own) != 1)
+    yield from (f"{MESSAGES.name}: no message of the sources is {heading}" for heading in headings if [heading] not in found)
 
 # What a check may take, the crates in which the functions to prove are most of the crate, and the others that take longest.
 MEMORY = 5 << 30
@@ -267,8 +262,7 @@ def check_wrong_bodies(*crates, built=False, gate=False, minutes: int = None):
 
     All of a crate's wrong-bodies/ are put into one copy of it, and one check proves the functions that they change: a function is proved by
     its own body and the contracts of what it calls, so each of them has to be refused by itself. If one calls another, the check says no
-    more than that it calls what isn't proved: then those are tried once more without the others. Two that change one function are tried
-    apart.
+    more than that it calls what isn't proved: then it is tried once more without the other. Two that change one function are tried apart.
 
     A crate and those below it are built first if they aren't, and so the crate is known to be proved as it is. --built takes the crates as
     `rt ci` leaves them in out/, and tries several side by side. --gate does this with all crates but count_office, desk, office and store,

@@ -33,7 +33,6 @@ def listed(program):
     return re.findall(r"^  ([a-z-]+)  ", commands, re.M), [(name, words.strip()) for name, words in lists]
 
 def orders_of(program):
-    """Yields all orders."""
     commands, lists = listed(program)
     for name in dict.fromkeys([*commands, *(name for name, _ in lists)]):
         parts = sections(said(program, "DB", name, "--help"))
@@ -99,7 +98,6 @@ def zsh(orders, counts):
     return filled("completions/count-office.zsh", ORDERS=names, OPTIONS=options, FILES=with_files, COUNT_OPTIONS=names_of(counts))
 
 def fish_options(command, options):
-    """Returns the lines that offer options of a command."""
     return "".join(f"complete -c {command} -l {name_of(option)} {'-x ' if '<' in option.name else ''}-d {in_quotes(option.text)}\n"
                    for option in options)
 

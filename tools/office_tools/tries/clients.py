@@ -24,25 +24,13 @@ CROWDED, SLOWEST = 12, 3
 def of(clerk, target="work", *headers, body="", code=""):
     return request(f"/clerks/{clerk}/{target}", f"Authorization: {basic(clerk, code or READER_CODES[clerk])}", *headers, body=body)
 
-def print_crowds(serving):
-    heads = "at once", f"came in {CROWDED} seconds", "answers of another", "the slowest, seconds", "memory so far, MB"
-    table, refused = Table("Clients who", *heads), of(9, "batches/99/keying", body='{"id":"h1","round":1,"papers":["1,2,","9"]}')
-    ask_well = functools.partial(serving.ask, of(4, ""), shut=True)
-    wrong_if(status(good := ask_well()) != 200, f"the good client gets {good}")
-    for what, count, sends, how in (
-        ("say nothing", MANY, b"", {}),
-        ("half a request, and nothing more", MANY, refused[:-9], {}),
-        ("ask, and go at once", MANY, of(9), {"goes": True}),
-        ("ask for more than sockets take, and never read it", FEW, of(READER), {"reads": False}),
-    ):
-        times, ends = [], time.monotonic() + CROWDED
-        with Crowd(serving.port, count, sends, **how) as crowd:
-            while time.monotonic() < ends:
-                text, seconds = timed(ask_well)
-                times.append(seconds)
-                wrong_if(text != good or seconds > SLOWEST, f"beside clients who {what} one gets {text} after {seconds:.1f} seconds")
-                time.sleep(0.05)
-        table.row(what, count, crowd.came, len(times), f"{max(times):.2f}", f"{serving.memory():.0f}")
+# The crowds: what they do, how many they are, what they send, and how.
+CROWDS = [
+    ("say nothing", MANY, b"", {}),
+    ("half a request, and nothing more", MANY, of(9, "batches/99/keying", body='{"id":"h1","round":1,"papers":["1,2,","9"]}')[:-9], {}),
+    ("ask, and go at once", MANY, of(9), {"goes": True}),
+    ("ask for more than sockets take, and never read it", FEW, of(READER), {"reads": False}),
+]
 
 def try_hostile_clients():
     """Meets `serve` with a thousand clients at once that mean harm, are slow, or go away, and prints how long another one waits.
@@ -55,9 +43,19 @@ def try_hostile_clients():
     with temporary_folder() as folder:
         office = Office(folder).begin(ward_orders((12, 2, 4, 9), *((1000 + number, 2, READER, 9) for number in range(BATCHES))))
         office.write_codes(READER_CODES)
-        rows = office.rows()
+        rows, heads = office.rows(), ("at once", f"came in {CROWDED} seconds", "answers of another", "the slowest, seconds")
         with office.serve("--codes", "codes.txt") as serving:
-            print_crowds(serving)
+            table, ask_well = Table("Clients who", *heads, "memory so far, MB"), functools.partial(serving.ask, of(4, ""), shut=True)
+            wrong_if(status(good := ask_well()) != 200, f"the good client gets {good}")
+            for what, count, sends, how in CROWDS:
+                times, ends = [], time.monotonic() + CROWDED
+                with Crowd(serving.port, count, sends, **how) as crowd:
+                    while time.monotonic() < ends:
+                        text, seconds = timed(ask_well)
+                        times.append(seconds)
+                        wrong_if(text != good or seconds > SLOWEST, f"beside clients who {what}: {text} after {seconds:.1f} seconds")
+                        time.sleep(0.05)
+                table.row(what, count, crowd.came, len(times), f"{max(times):.2f}", f"{serving.memory():.0f}")
             wrong_if(serving.kill() != (-9, "", "") or office.rows() != rows, "serve printed something, or the rows aren't as before")
 
 BOTH, TAKEN = (HERE, "::1"), (3, "", "fault 107: socket or output\n")

@@ -161,14 +161,11 @@ def try_hostile_files(seed=7):
     """Gives the program files that are no office, or a damaged one, and prints what it reports.
 
     - *Damaged files.* If the program reports a fault, the files stay byte for byte as they were, and a second report is the same. If the
-      office opens, it adds a ward, and the file is whole. A bit turned in a name, or in what nothing uses, is no damage that rows can
-      show.
+      office opens, it adds a ward, and the file is whole. A bit turned in a name, or in what nothing uses, is damage that no row shows.
     - *A log without its file.* While DB is missing or empty, and something has the name of its log, or of a rollback journal, each order
-      reports fault 105, and touches nothing. Only `init` makes an office there, if its log has no more than 41 bytes: an `init` begins with
-      these.
+      reports fault 105, and touches nothing. Only `init` makes an office there, if the log has at most 41 bytes: an `init` begins so.
     - *Other accounts*, if the tool runs as root. An order doesn't read a log that belongs to another account than DB, but root's, and any
-      if others may write to DB. `serve` refuses another account's codes, and root's `serve` makes no socket for orders next to a DB of
-      another account.
+      if others may write to DB. `serve` refuses another account's codes, and root's makes no socket for orders next to another's DB.
 
     Not an error: the log of another database, put next to the file of an office, is taken for the office's own, and the office is lost.
     """
@@ -338,13 +335,11 @@ def print_rights(folder, before):
 def try_shared_files(runs=100, seed=7):
     """Gives two orders at one file at once, takes files away, and looks at the rights of what is made.
 
-    - *Two orders at once.* What both print, and the rows, are as if one had been given after the other. While `init` runs the other may
-      report 105.
+    - *Two orders at once.* What both print, and the rows, are as if one had come after the other. During `init` the other may report 105.
     - *Files taken away.* The file or its log is removed, or replaced by another office's. An order continues with the files that it has
       open: they have the rows before it, or those after it if it was answered, and the other office's file isn't changed.
     - *No room.* An order that makes a file finds no room for an office in it. By `strace` it stops after one of its calls on the file, and
-      another order opens that file. If that was answered, the file holds what it printed; else nothing is left, and an `init` makes an
-      office.
+      another order opens that file. If that was answered, the file holds what it printed; else nothing is left, and `init` works there.
     - *Rights.* By `strace`: DB, its log, a copy and the socket are made for their owner alone, and are their owner's alone then.
     """
     needs("strace")

@@ -197,9 +197,8 @@ def try_journalled(evenings=200, seed=7):
     """Plays made-up evenings, sends the journal of each to a new office, and compares all rows.
 
     Names and ids look like words of a script. Refused orders, and ids that were given to something else, come between. `journal` has a line
-    for each receipt, and each is accepted by `replay`. All tables of both offices have the same rows, and the new office has the same
-    journal. That of one evening in ten is also sent twice, which makes the same tables, cut, and shuffled: each makes an office with a
-    journal.
+    for each receipt, and each is accepted by `replay`. All tables of both offices have the same rows, and both have the same journal. That
+    of one evening in ten is also sent twice, which makes the same tables, cut, and shuffled: each makes an office with a journal.
     """
     print_evenings("What the evenings had", evenings, seed, lambda evening, number: counted(
         compared(evening.office, evening.chance, number % 10 == 0), evening.refused))

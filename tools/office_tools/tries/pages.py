@@ -267,7 +267,7 @@ def names(officer, screen):
     officer.yes("First preference: 7", "2 Bob", said="batch 1 paper 2 accepted").pictured("42-names-judged")
     officer.go("count", 9).click("seal").yes("All expected papers were given out: 302", said="ward 9 sealed")
     screen.look(9, "Valid papers 302", "Rejected papers 0", "Quota 19.00000", picture="62-sealed")
-    counted(officer, 9)
+    counted(officer)
     officer.pictured("44-names-declared").go("overview").shows("All wards are declared", "steps").pictured("45-names-overview")
     last = screen.look(9, "1 of 1 ward declared").value("lastPart(9)")
     for part in range(1, last):
@@ -278,17 +278,13 @@ def names(officer, screen):
         marked = "document.querySelectorAll('img, main i b, main script, #view script').length || document.title === 'marked'"
         wrong_if(page.value(marked), "a name is markup")
 
-def counted(officer, ward):
-    for _ in range(60):
-        officer.until(SETTLED)
-        text = officer.value("document.getElementById('count-now').innerText")
-        if "duly elected" in text:
-            return
+def counted(officer):
+    officer.until(SETTLED)
+    while "duly elected" not in (text := officer.value("document.getElementById('count-now').innerText")):
         step = next(key for word, key in STEPS if f"Next: {word}" in text)
         if step == "lot":
             officer.tab_to(officer.value("document.querySelector('#count-now input[type=radio]').dataset.key")).keys(" ").pictured("43-lot")
-        officer.click(step).yes(said="Done")
-    raise Wrong(f"ward {ward} isn't declared")
+        officer.click(step).yes(said="Done").until(SETTLED)
 
 def refused(officer, _):
     """A script of batches is refused halfway, and the rest goes to the tellers whose turn it is. A file is too large."""

@@ -71,8 +71,7 @@ def try_refused_growths(step=1, order=""):
     The GNU C library is set to ask the system for each growth by itself, and `strace` refuses the one that is meant. An order asks for some
     7,000 growths, which takes hours: STEP tries one in STEP, from another one on for each order; ORDER the orders of one name alone. Each
     run meets what `tools/try killed` requires, and reports fault 101, or prints what it prints with ample memory. `serve` may also
-    disconnect the client, or end with fault 101. The second `advance 7 --id a3` is refused, since it comes before its lot, and the second
-    `status 7` finds no file.
+    disconnect the client, or end with fault 101. The second `advance 7 --id a3` is before its lot, and the second `status 7` has no file.
     """
     needs("strace")
     with temporary_folder() as folder:
@@ -82,10 +81,10 @@ def try_refused_growths(step=1, order=""):
 FAULT, GONE_FILE, READ = "fault 102: store", "fault 113: file gone or replaced", r"file fault 8 at record \d+: read failed"
 COPIED, EVERY = [COPY, COPY_LOG], [TOWN, LOG, COPY, COPY_LOG, "."]
 ONCE, GONE, ROOM = "a call fails once", "all calls fail from one on", "no room past a length, which cuts a write"
-KINDS = [
-    (ONCE, "DB", [TOWN]), (ONCE, "its log", [LOG]), (ONCE, "the folder", ["."]), (ONCE, "a copy", [COPY]),
-    (ONCE, "a copy's log", [COPY_LOG]), (ONCE, "the import file", [FILE]), (ONCE, "the script", [SCRIPT]), (GONE, "any", EVERY),
-    (GONE, "a copy and its log", COPIED), (ROOM, "any", EVERY)]
+FILES = {"DB": TOWN, "its log": LOG, "the folder": ".", "a copy": COPY, "a copy's log": COPY_LOG, "the import file": FILE,
+         "the script": SCRIPT}
+KINDS = [*((ONCE, what, [name]) for what, name in FILES.items()), (GONE, "any", EVERY), (GONE, "a copy and its log", COPIED),
+         (ROOM, "any", EVERY)]
 WRITE = re.compile(r" pwrite64\(.*, (\d+), (\d+)\) = ")
 
 def may_report(trial, names):
@@ -115,8 +114,7 @@ def try_failing_disk(step=1, order=""):
     By `strace` one call fails, or all calls from one on, as on a disk that is gone; or there is no room past a length (`prlimit --fsize`).
     STEP tries one call in STEP, ORDER the orders of one name alone. Each run meets what `tools/try killed` requires, and reports fault 102
     (for an import file or a script its own fault 8), or prints what it prints with a disk that works. `serve` may also report fault 113,
-    and `copy` 110 if its own file or log fails, even after its reply. A disk that is gone may keep a file of `copy` or `init` with no
-    office in it.
+    and `copy` 110 if its own file or log fails, even after its reply. If all calls fail, `copy` and `init` may leave a file, not an office.
     """
     needs("strace")
     kinds = [(way, what, functools.partial(failures, way=way, names=names, step=step)) for way, what, names in KINDS]
