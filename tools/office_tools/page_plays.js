@@ -101,12 +101,13 @@ class Window {
   text(id) { return this.at(id).textContent; }
   texts(id, selector = 'li') { return all(this.at(id), selector).map(({textContent}) => textContent); }
 
-  // Checks what the page shows: each part by the method of this name, `ID hidden` or `ID disabled`, or else as the text of an element. A
-  // text may be given as a pattern.
+  // Checks what the page shows: each part by the method of this name, `ID hidden` or `ID disabled`, or else as the text of an element, or
+  // the texts of its items. A text may be given as a pattern.
   sees(wanted) {
     for (const [part, value] of Object.entries(wanted)) {
       const [id, property] = part.split(' ');
-      const found = property ? this.at(id)[property] : typeof this[part] === 'function' ? this[part]() : this.text(part);
+      const found = property ? this.at(id)[property] : typeof this[part] === 'function' ? this[part]()
+        : Array.isArray(value) ? this.texts(part) : this.text(part);
       if (value instanceof RegExp) assert.match(found, value, part);
       else assert.deepEqual(found, value, part);
     }
@@ -157,10 +158,8 @@ class Clerk extends Window {
     return {status: 200, says: target === '/clerks/4/batches/12/candidates' ? CANDIDATES : {left: true}};
   }
 
-  listed() { return this.texts('list'); }
   drafts() { return Object.values(this.storage).map((text) => JSON.parse(text)); }
   papers() { return this.drafts().map(({rows}) => rows.map(({text}) => text)); }
-  marks() { return this.texts('read-marks'); }
   isKept() { return /has kept it|is kept\b/.test(this.text('said')); }
   sent() { return this.asked.filter(({method}) => method === 'POST').map(({target, body}) => ({target, ...JSON.parse(body)})); }
 }
@@ -197,10 +196,10 @@ const notKept = (said, isRepeated) => ({said, isKept: false, papers: [PAPERS], '
 const CLERK_PLAYS = {
   'a clerk without a code is told so, and lists his batches by a code': play(opened, [{first: [DENIED, TOO_MANY]}], async (window) => {
     for (const words of [/code is wrong, or none was sent/, /code is wrong, and very many wrong codes/]) {
-      window.sees({asked: words, listed: []});
+      window.sees({asked: words, list: []});
       await window.click('look');
     }
-    window.sees({listed: [`Batch 12 ${NAMED}, 3 papers.`, SENT], who: 'clerk 4'});
+    window.sees({list: [`Batch 12 ${NAMED}, 3 papers.`, SENT], who: 'clerk 4'});
     assert.equal(window.document.title, 'Clerk 4: keying');
   }),
   'papers are sent once as they were keyed, and shown as kept; nothing else is asked but what is its clerk\u2019s': play(finished, [
@@ -278,7 +277,7 @@ const CLERK_PLAYS = {
     const own = await before.another();
     own.sees({list: /1 keyed here/});
     const other = await before.another({only: {status: 200, says: {clerk: 9, work: WORK.slice(1), ...CANDIDATES}}}, {clerk: 9});
-    other.sees({listed: [SENT]});
+    other.sees({list: [SENT]});
     assert.deepEqual(other.asked.map(({target}) => target), ['/clerks/9/work', '/clerks/9/batches/13/candidates']);
     const window = await before.another({}, {batch: '#12'});
     before.window.dispatchEvent(new before.window.StorageEvent('storage', {key: 'keying 4 12 1'}));
@@ -295,7 +294,7 @@ const CLERK_PLAYS = {
       [['Enter'], 2, ['12 <img src=x onerror=alert(1)>']], [['Enter', 'Enter'], 2, ['12 <img src=x onerror=alert(1)>'], {repeat: true}],
       [['Backspace'], 1, ['1 Ann', `2 ${NAMES[1]}`]], [['Delete', '0', '1', 'ArrowDown'], 2, ['12 <img src=x onerror=alert(1)>']],
     ]) {
-      await before.press(keys, {paper: `Paper ${paper} of 3`, marks: lines}, more);
+      await before.press(keys, {paper: `Paper ${paper} of 3`, 'read-marks': lines}, more);
     }
     const window = await before.another(before.office, {batch: '#12'});
     await window.press(['ArrowDown', 'Enter']);
@@ -342,11 +341,11 @@ const CLERK_PLAYS = {
   'the list follows the office by itself, and leaves the cursor where it is': play(opened, [], async (window) => {
     window.office.work = [{...OPEN, batch: 11}, ...WORK];
     await window.pass(30);
-    assert.deepEqual([window.listed().length, window.document.activeElement.value], [3, '12']);
+    assert.deepEqual([window.texts('list').length, window.document.activeElement.value], [3, '12']);
     for (window.office.only of [null, undefined]) {
       await window.pass(30);
       assert.equal(/office is not responding/.test(window.text('asked')), window.office.only === null);
-      assert.equal(window.listed().length, 3);
+      assert.equal(window.texts('list').length, 3);
     }
     await window.press(['Enter']);
     const {length} = window.asked;
@@ -654,7 +653,6 @@ class Screen extends Window {
     return found;
   }
 
-  elected() { return this.texts('people'); }
   bars() { return all(this.at('bars'), 'li .bar').map((bar) => `${Math.round(parseFloat(bar.style.width))}`); }
   notes() { return this.texts('what', 'p'); }
 
@@ -725,7 +723,7 @@ const SCREEN_PLAYS = {
     assert.deepEqual(window.rows().map((it) => it[2]), ['6.00000', '1.00000', '2.00000']);
     const turns = ['Stage 1 5', 'Stage 2 6', 'Stage 3 6', 'elected 12', 'Stage 3 6'].map((it) => `Ward 7 Harbour: ${it}`);
     assert.deepEqual(await window.turns(5), turns);
-    window.sees({elected: ['1Annat stage 1', '3Cyat stage 3'], place: '1 of 1 ward declared'});
+    window.sees({people: ['1Annat stage 1', '3Cyat stage 3'], place: '1 of 1 ward declared'});
   }),
   'a ward without a poll shows its declaration, and how many seats stay empty': play(inHall, [quay('sealed')], async (window) => {
     window.sees({shown: 'Ward 9 Quay: No poll'});
@@ -783,7 +781,7 @@ const SCREEN_PLAYS = {
   }),
   'names are shown whole and as they are, and none is markup': play(inHall, [markup('declared', 3)], async (window) => {
     assert.deepEqual(window.rows().map(([, name]) => name), NAMES);
-    await window.until('elected', {which: 'Ward 7 Old Town <i>&', elected: [`1${NAMES[0]}at stage 1`, `3${NAMES[2]}at stage 3`]});
+    await window.until('elected', {which: 'Ward 7 Old Town <i>&', people: [`1${NAMES[0]}at stage 1`, `3${NAMES[2]}at stage 3`]});
     assert.ok(all(window.document, 'bdi').every(({children}) => children.length === 0));
   }),
   'another office at the same address is shown as it is': play(inHall, [harbour('declared', 3), town('sealed', 4)], async (window) => {
