@@ -95,15 +95,9 @@ class Crate:
 
 def changes_of(edit):
     """Returns [(file, old text, new text)] of an edit."""
-    path, found = "", []
-    for key, _, words in (line.partition(":") for line in edit.splitlines()):
-        if key == "file":
-            path = words.strip()
-        elif key == "old":
-            found.append([path, words[1:], ""])
-        elif key == "new":
-            found[-1][2] = words[1:]
-    return found
+    parts = re.split(r"^file: *(.*?) *\n", edit, flags=re.M)[1:]
+    changes = ((path, re.findall(r"^old:.?(.*)\n(?:new:.?(.*))?", lines, re.M)) for path, lines in zip(parts[::2], parts[1::2]))
+    return [(path, old, new) for path, found in changes for old, new in found]
 
 def crates():
     """Returns all crates in the order of crates.txt, lowest first."""

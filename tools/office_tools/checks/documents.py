@@ -196,12 +196,6 @@ class Order:
         is_enough = len(needed) <= len(given) and (self.has_many or len(given) <= len(self.words))
         return words[:1] == [self.name] and is_enough and ("--id" in words) == self.has_id
 
-def in_script(order):
-    with temporary_folder() as folder:
-        office = Office(folder).begin()
-        office.write(SCRIPT, [shlex.join(order.example)])
-        return "can't be used in a script" not in office.run("replay", SCRIPT).err
-
 def unlike(place, found, wanted):
     """Yields the names that are in only one of two lists, and whether one is there twice."""
     yield from (f"{place}: {name} {'is no order there' if name in found else 'is missing'}" for name in sorted(set(found) ^ set(wanted)))
@@ -243,7 +237,12 @@ def check_orders():
     for typed, order in ((f"{name} {words}".strip(), orders[name]) for name, words in listed):
         if typed != order.typed:
             yield f"--help: {typed} is not {order.typed}"
-    scripted = {name for name, order in orders.items() if order.example and in_script(order)}
+    with temporary_folder() as folder:
+        office, scripted = Office(folder).begin(), set()
+        for name, order in orders.items():
+            office.write(SCRIPT, [shlex.join(order.example)])
+            if order.example and "can't be used in a script" not in office.run("replay", SCRIPT).err:
+                scripted.add(name)
     yield from unlike_in_pages(orders, scripted)
     played = [order.words for order in (*ELECTION, REPLAY, *(order for _, order in READS))]
     yield from (f"election.py: {words} is no order" for words in played if words[0] not in orders or not orders[words[0]].takes(words))

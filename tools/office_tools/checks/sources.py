@@ -203,14 +203,10 @@ def kit():
     return rt
 
 def edited(folder, edits):
-    """Returns {path below a crate: its text with all edits in it}."""
+    """Returns {path below a crate: its text with all edits in it}. `tools/check proofs` sees that each old text is there once."""
     texts = {}
-    for name, edit in edits.items():
-        for path, old, new in sources.changes_of(edit):
-            texts.setdefault(path, (folder / path).read_text())
-            if texts[path].count(old) != 1:
-                sys.exit(f"{folder.name}/{name}: its old text is in {path} {texts[path].count(old)} times, and not once")
-            texts[path] = texts[path].replace(old, new)
+    for path, old, new in (change for edit in edits.values() for change in sources.changes_of(edit)):
+        texts[path] = texts.get(path, (folder / path).read_text()).replace(old, new)
     return texts
 
 def path_of(function):

@@ -22,7 +22,7 @@ def compare(what, told, wanted):
         wrong_if(line != right, f"{what}, line {place}: told is {line}, wanted {right}")
 
 def compare_counted(content, words, count, wanted):
-    """Counts a file without an office, with the lots of a count, and compares the texts by their options, the line about a lot, the status."""
+    """Counts a file without an office, with a count's lots, and compares each text by its option, the line about a lot and the status."""
     line, added = b"0", [word for stage, drawn in count.ballots.lots.items() for word in ("--lot", f"{stage}:{drawn}")]
     if count.waits:
         tied = ", ".join(f"{number} {count.ballots.names[number]}" for number in count.waits[1])

@@ -106,7 +106,7 @@ def try_lan():
     """Sets nginx up by count-office-lan in a clean Debian root, and keys through it from another machine.
 
     The machines are network namespaces: the office's, with the package of release/ and these sources' script in that root; a client's, with
-    a teller's address, and one of a network that isn't let in. Needs root, Debian's mmdebstrap, iproute2 and curl, and its packages.
+    a teller's address, and one of a network that isn't let in. Needs root, mmdebstrap, iproute2 and curl, and a mirror of Debian.
     """
     needs("mmdebstrap", "ip", "curl", "chroot")
     with temporary_folder() as folder, network():

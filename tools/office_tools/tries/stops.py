@@ -71,7 +71,8 @@ def try_refused_growths(step=1, order=""):
     The GNU C library is set to ask the system for each growth by itself, and `strace` refuses the one that is meant. An order asks for some
     7,000 growths, which takes hours: STEP tries one in STEP, from another one on for each order; ORDER the orders of one name alone. Each
     run meets what `tools/try killed` requires, and reports fault 101, or prints what it prints with ample memory. `serve` may also
-    disconnect the client, or end with fault 101. The second `advance 7 --id a3` is before its lot, and the second `status 7` has no file.
+    disconnect the client, or end with fault 101. The second `advance 7 --id a3` is refused, since it comes before its lot, and the second
+    `status 7` finds no file.
     """
     needs("strace")
     with temporary_folder() as folder:
