@@ -114,8 +114,8 @@ class Window {
   }
 }
 
-// A play: how its window is made of the page, and what is done then.
-const play = (begin, words, act) => async (page) => act(await begin(page, ...structuredClone(words)));
+// A play: what opens its window of the page, with which words, and what is done then.
+const play = (kind, words, act) => async (page) => act(await kind.open(page, ...structuredClone(words)));
 
 // Yields why plays don't end well on a page.
 async function* faults(page, plays) {
@@ -179,14 +179,12 @@ const NAMED = 'ward 7 Old Town <i>&, round 1';
 const SENT = `Batch 13: ${NAMED}, 2 papers. The office has your keying.`;
 const ROUND_2 = [{...OPEN, round: 2}];
 
-const opened = (page, office) => Clerk.open(page, office);
-
-// Windows in which batch 12 is open, at its first paper; and in which all its papers are keyed, and nothing is sent yet.
-const keyedAt = (keys, wanted) => async (page, ...answers) => {
-  const window = await opened(page, {answers});
+// What opens a window where keys were pressed: batch 12 is open, at its first paper; or all its papers are keyed, and nothing is sent.
+const keyedAt = (keys, wanted) => ({open: async (page, ...answers) => {
+  const window = await Clerk.open(page, {answers});
   await window.press(['Enter', 'Enter', ...keys], wanted);
   return window;
-};
+}});
 const begun = keyedAt([], {paper: 'Paper 1 of 3'});
 const finished = keyedAt(KEYS.flat(), {'end hidden': false, sent: []});
 
@@ -194,7 +192,7 @@ const finished = keyedAt(KEYS.flat(), {'end hidden': false, sent: []});
 const notKept = (said, isRepeated) => ({said, isKept: false, papers: [PAPERS], 'send disabled': false, 'back disabled': isRepeated});
 
 const CLERK_PLAYS = {
-  'a clerk without a code is told so, and lists his batches by a code': play(opened, [{first: [DENIED, TOO_MANY]}], async (window) => {
+  'a clerk without a code is told so, and lists his batches by a code': play(Clerk, [{first: [DENIED, TOO_MANY]}], async (window) => {
     for (const words of [/code is wrong, or none was sent/, /code is wrong, and very many wrong codes/]) {
       window.sees({asked: words, list: []});
       await window.click('look');
@@ -286,7 +284,7 @@ const CLERK_PLAYS = {
     window.sees({paper: 'Paper 2 of 3'});
     await window.press([...KEYS[1].slice(1), ...KEYS[2]], {papers: [PAPERS]});
   }),
-  'an earlier keying is gone through paper by paper, mended, and sent as the keying of the new round': play(opened, [
+  'an earlier keying is gone through paper by paper, mended, and sent as the keying of the new round': play(Clerk, [
     {work: ROUND_2, keyed: {batch: 12, round: 1, papers: PAPERS}, answers: [kept(12, 2)]}], async (before) => {
     await before.press(['Enter', 'Enter', '3', 'Enter', 'Enter'], {}, {repeat: true});
     await before.press(['5'], {'start-title': /round 2/, notice: /as you keyed it in round 1/});
@@ -310,7 +308,7 @@ const CLERK_PLAYS = {
   }),
   'who has no earlier keying keys from the papers, and whoever can\u2019t have it is told so': async (page) => {
     for (const keyed of [undefined, {batch: 12, round: 2, papers: PAPERS}, {batch: 12, round: 1, papers: ['1,2,']}]) {
-      const window = await opened(page, {work: ROUND_2, keyed});
+      const window = await Clerk.open(page, {work: ROUND_2, keyed});
       await window.press(['Enter']);
       assert.ok(window.at('through').closest('[hidden]'), 'nothing can be gone through');
       window.sees(keyed ? {asked: /can\u2019t be opened/} : {anew: /Key every paper again/});
@@ -338,7 +336,7 @@ const CLERK_PLAYS = {
       assert.deepEqual([table.className, Math.round(1000 * field) / 1000], [layout, rems], `${pixels} pixels`);
     }
   }),
-  'the list follows the office by itself, and leaves the cursor where it is': play(opened, [], async (window) => {
+  'the list follows the office by itself, and leaves the cursor where it is': play(Clerk, [], async (window) => {
     window.office.work = [{...OPEN, batch: 11}, ...WORK];
     await window.pass(30);
     assert.deepEqual([window.texts('list').length, window.document.activeElement.value], [3, '12']);
@@ -455,8 +453,6 @@ class Console extends Window {
   sent() { return this.bodies().map((body) => JSON.parse(body.replace(/\bc-[a-z0-9]+-[a-z]{2}\b/g, 'ID')).words); }
 }
 
-const atDesk = (page, office) => Console.open(page, office);
-
 // What `sheet` and `table` print of a ward of which no stage is counted yet.
 const SHEET = 'Ward 7 Harbour\nSeats 1, valid 2, quota 2.00000\nRejected 1: 0, 2: 0, 3: 0, 4: 0, 5: 0\n';
 const TABLE = 'candidate,name\n1,Ann\n2,Bob <b>\n';
@@ -472,8 +468,8 @@ const REPORT = 'replaced v2, judge 13 6: by v3\nleft out a1, advance 7: ward 7 c
   + 'mended: 3 orders kept, 1 replaced, 1 left out\n';
 
 // A window in which a verdict is to be replaced, and a keying left out.
-const mending = async (page, ...orders) => {
-  const window = await atDesk(page, {receipts: [...RECEIPTS], orders: [[JOURNAL], ...orders]});
+const mending = {open: async (page, ...orders) => {
+  const window = await Console.open(page, {receipts: [...RECEIPTS], orders: [[JOURNAL], ...orders]});
   await window.click(['tab journal', 'right v2', 'replace v2']);
   assert.equal(window.found('rest v2').value, 'reject:4');
   await window.type('rest v2', 'accept:,1');
@@ -481,12 +477,12 @@ const mending = async (page, ...orders) => {
   assert.ok(!window.has('replace 4:v2'), 'nobody keys in a teller\u2019s place');
   await window.type('mended-name', 'town-5.db');
   return window;
-};
+}};
 const NOT_MENDED = 'not mended: 0 orders can be replaced, not just one: ward 7\n';
 const MENDED = ['mend', 'town-5.db', '--with=judge --id ID 13 6 accept:,1', '--without=4:v2'];
 
 const CONSOLE_PLAYS = {
-  'a ward is sealed once it was read back': play(atDesk, [
+  'a ward is sealed once it was read back': play(Console, [
     {batches: [batch(12), batch(15)], orders: [['ward 7 sealed\n']]}], async (window) => {
     await window.pass(3, {steps: /All batches agreed, all doubtful papers judged: seal the ward/});
     await window.click('tab count');
@@ -496,7 +492,7 @@ const CONSOLE_PLAYS = {
     await window.order('seal', {sent: [['seal', '--id', 'ID', '--', '7']], result: /Done: seal ward 7/});
     assert.deepEqual(window.office.orders, []);
   }),
-  'batches with the same papers are named before their ward is sealed': play(atDesk, [
+  'batches with the same papers are named before their ward is sealed': play(Console, [
     {batches: [batch(12, 15), batch(15, 12), batch(16), batch(18, 12), batch(20, 31)], ward: {batches: 5, taken: 5}}], async (window) => {
     const named = /Batches 12, 15 and 18 have the same papers. Batches 20 and 31 have the same papers/;
     await window.pass(3, {steps: named});
@@ -521,7 +517,7 @@ const CONSOLE_PLAYS = {
     await later.click('tab journal', {report: REPORT});
     await later.click(['close-mended', 'forget-wishes'], {mending: '', sent: []});
   }),
-  'what takes the place of an order is what the journal has of it': play(atDesk, [
+  'what takes the place of an order is what the journal has of it': play(Console, [
     {receipts: RECEIPTS, orders: [[JOURNAL], ['', NOT_MENDED]]}], async (window) => {
     await window.click('tab journal');
     for (const [name, rest] of [['w1', '1 "--id w1"'], ['c1', '-- "-Ann  \u00e9"']]) {
@@ -565,11 +561,11 @@ const CONSOLE_PLAYS = {
       ['count', 'lots', {ward: {phase: 'sealed', seats: 1}, next}, read],
       ['count', 'declaration', {ward: {phase: 'declared', elected: [1]}, next: {step: 'nothing'}}, read],
     ]) {
-      const window = await atDesk(page, {...parts, orders: [...before, [`<html>${form}</html>`]]});
+      const window = await Console.open(page, {...parts, orders: [...before, [`<html>${form}</html>`]]});
       await window.click([`tab ${part}`, `form ${form}`]);
       assert.deepEqual([window.sent().at(-1), window.saved], [['forms', form, '7'], [[`${form}-7.html`, `<html>${form}</html>`]]]);
     }
-    const window = await atDesk(page, {ward: {batches: 0, taken: 0}});
+    const window = await Console.open(page, {ward: {batches: 0, taken: 0}});
     for (const part of ['batches', 'doubtful']) {
       await window.click(`tab ${part}`);
       assert.ok(!window.has('form covers') && !window.has('form adjudication'), 'a form of nothing is offered');
@@ -608,6 +604,12 @@ const [harbour, town, quay, markup] = [HARBOUR, TOWN, QUAY, MARKUP].map((count) 
 // A window that shows the screen of an office whose wards may change: each has its count, its phase, and how many stages are counted.
 class Screen extends Window {
   constructor(page, ...wards) { super(page, {wards}, {url: 'http://127.0.0.1:8080/screen'}); }
+
+  static async open(page, ...wards) {
+    const window = await super.open(page, ...wards);
+    await window.pass(1);
+    return window;
+  }
 
   answer(method, target) {
     const {wards} = this.office, [, number, what] = /^\/wards\/(\d+)\/(sheet|result)$/.exec(target) ?? [];
@@ -664,14 +666,8 @@ class Screen extends Window {
   }
 }
 
-const inHall = async (page, ...wards) => {
-  const window = await Screen.open(page, ...wards);
-  await window.pass(1);
-  return window;
-};
-
 const SCREEN_PLAYS = {
-  'before the seal a ward shows its name and its phase, and nothing else is asked for': play(inHall, [
+  'before the seal a ward shows its name and its phase, and nothing else is asked for': play(Screen, [
     harbour('keying'), town('nominations')], async (window) => {
     await window.until('Ward 7 Harbour: Votes are being entered', {view: 'Votes are being entered', title: TITLE});
     await window.until('Ward 8 Old Town: Nominations are open');
@@ -679,7 +675,7 @@ const SCREEN_PLAYS = {
     const asked = window.asked.map((it) => [it.method, it.target, it.credentials, it.redirect, it.cache].join(' '));
     assert.deepEqual([...new Set(asked)], ['GET /screen/wards omit error no-store'], 'no code is sent, and no sheet is asked for');
   }),
-  'a sealed ward shows its figures, and each stage as the sheet has it': play(inHall, [harbour('sealed')], async (window) => {
+  'a sealed ward shows its figures, and each stage as the sheet has it': play(Screen, [harbour('sealed')], async (window) => {
     const [ward] = window.office.wards;
     window.sees({shown: 'Ward 7 Harbour: The papers are sealed', view: /Seats2Valid papers9Rejected papers0Quota4\.00000/});
     for (const [rows, notes, bars] of [
@@ -697,7 +693,7 @@ const SCREEN_PLAYS = {
     const lines = all(window.document, '.quota').map((it) => Math.round(parseFloat(it.style.left)));
     assert.deepEqual(lines, [65, 65, 65, 65], 'the line is at the quota');
   }),
-  'a tie is settled by an earlier stage or by lot, and a lot that is due is said': play(inHall, [town('sealed', 1)], async (window) => {
+  'a tie is settled by an earlier stage or by lot, and a lot that is due is said': play(Screen, [town('sealed', 1)], async (window) => {
     const [ward] = window.office.wards;
     window.sees({notes: ['4 Dee and 5 Eve are tied at every stage. A lot decides who is excluded.']});
     for (const [stages, notes] of [[2, ['There was a tie between 4 Dee and 5 Eve at every stage. It was settled by lot.']], [3, []],
@@ -708,7 +704,7 @@ const SCREEN_PLAYS = {
     }
     assert.deepEqual(window.rows().map((it) => it.at(-1)), ['Elected', 'Not elected', 'Excluded', 'Excluded stage 2', 'Excluded stage 3']);
   }),
-  'in made-up wards the ties that no stage settles are those of which lots were drawn': play(inHall, [], async (window) => {
+  'in made-up wards the ties that no stage settles are those of which lots were drawn': play(Screen, [], async (window) => {
     for (const {sheets, drawn} of MADE_UP) {
       const found = window.window.eval(`(() => {
         const count = sheetIn(${JSON.stringify(sheets.at(-1))});
@@ -719,18 +715,18 @@ const SCREEN_PLAYS = {
       assert.deepEqual(JSON.parse(found), drawn);
     }
   }),
-  'a declared ward shows its last stage, and who is elected': play(inHall, [harbour('declared', 3)], async (window) => {
+  'a declared ward shows its last stage, and who is elected': play(Screen, [harbour('declared', 3)], async (window) => {
     assert.deepEqual(window.rows().map((it) => it[2]), ['6.00000', '1.00000', '2.00000']);
     const turns = ['Stage 1 5', 'Stage 2 6', 'Stage 3 6', 'elected 12', 'Stage 3 6'].map((it) => `Ward 7 Harbour: ${it}`);
     assert.deepEqual(await window.turns(5), turns);
     window.sees({people: ['1Annat stage 1', '3Cyat stage 3'], place: '1 of 1 ward declared'});
   }),
-  'a ward without a poll shows its declaration, and how many seats stay empty': play(inHall, [quay('sealed')], async (window) => {
+  'a ward without a poll shows its declaration, and how many seats stay empty': play(Screen, [quay('sealed')], async (window) => {
     window.sees({shown: 'Ward 9 Quay: No poll'});
     window.office.wards[0].phase = 'declared';
     await window.until('elected', {view: /Elected1Ina2JoThere was no poll: .*1 seat stays empty/});
   }),
-  'the last state stays while the office doesn\u2019t respond, and the screen goes on by itself': play(inHall, [
+  'the last state stays while the office doesn\u2019t respond, and the screen goes on by itself': play(Screen, [
     harbour('sealed', 2), town('keying')], async (window) => {
     await window.until('Stage 2', {'down hidden': true, changed: 'No change since 21:00'});
     const rows = window.rows();
@@ -747,13 +743,13 @@ const SCREEN_PLAYS = {
     window.sees({changed: `Last change at ${window.text('clock')}`});
     await window.until('Stage 3');
   }),
-  'wards take turns in a steady rhythm': play(inHall, [harbour('declared', 3), town('keying'), quay('nominations')], async (window) => {
+  'wards take turns in a steady rhythm': play(Screen, [harbour('declared', 3), town('keying'), quay('nominations')], async (window) => {
     await window.until('Ward 9 Quay');
     const round = ['Ward 9 Quay: Nominations are open 6', 'All wards: list 12', 'Ward 7 Harbour: Stage 3 6', 'Ward 7 Harbour: elected 12',
       'Ward 8 Old Town: Votes are being entered 6'];
     assert.deepEqual(await window.turns(10), [...round, ...round]);
   }),
-  'a ward with a new stage comes next, and the turns go on after it': play(inHall, [
+  'a ward with a new stage comes next, and the turns go on after it': play(Screen, [
     harbour('sealed', 1), town('sealed', 1), quay('keying')], async (window) => {
     for (const words of ['Ward 7', 'Ward 8', 'Ward 9', 'list']) await window.until(words);
     window.office.wards[1].stages = 3;
@@ -761,7 +757,7 @@ const SCREEN_PLAYS = {
     assert.deepEqual(await window.turns(6), ['Ward 8 Old Town: Stage 1 6', 'Ward 8 Old Town: Stage 2 6', 'Ward 8 Old Town: Stage 3 12',
       'Ward 7 Harbour: Stage 1 12', 'Ward 8 Old Town: Stage 3 12', 'Ward 9 Quay: Votes are being entered 6']);
   }),
-  'keys choose the ward and the stage, and hold them': play(inHall, [harbour('sealed', 3), town('sealed', 2)], async (window) => {
+  'keys choose the ward and the stage, and hold them': play(Screen, [harbour('sealed', 3), town('sealed', 2)], async (window) => {
     await window.until('Ward 7 Harbour: Stage 3');
     for (const [key, words, held] of [
       ['ArrowUp', 'Ward 7 Harbour: Stage 2', true], ['ArrowUp', 'Ward 7 Harbour: Stage 1', true],
@@ -779,12 +775,12 @@ const SCREEN_PLAYS = {
     await window.press(['ArrowUp']);
     await window.seconds(120, {shown: 'Ward 7 Harbour: Stage 3'});
   }),
-  'names are shown whole and as they are, and none is markup': play(inHall, [markup('declared', 3)], async (window) => {
+  'names are shown whole and as they are, and none is markup': play(Screen, [markup('declared', 3)], async (window) => {
     assert.deepEqual(window.rows().map(([, name]) => name), NAMES);
     await window.until('elected', {which: 'Ward 7 Old Town <i>&', people: [`1${NAMES[0]}at stage 1`, `3${NAMES[2]}at stage 3`]});
     assert.ok(all(window.document, 'bdi').every(({children}) => children.length === 0));
   }),
-  'another office at the same address is shown as it is': play(inHall, [harbour('declared', 3), town('sealed', 4)], async (window) => {
+  'another office at the same address is shown as it is': play(Screen, [harbour('declared', 3), town('sealed', 4)], async (window) => {
     await window.until('Ward 7 Harbour: elected');
     await window.until('Ward 8 Old Town: Stage 4');
     window.office.wards = [harbour('keying'), quay('declared')];
