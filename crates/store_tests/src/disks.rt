@@ -57,6 +57,24 @@ fn copy_over<S: Alter + Drop>(
     }
 }
 
+/// Makes a new office in the given files from the journal of a connection's office, and returns the files as they are afterwards.
+fn mend_over<S: Alter + Drop>(
+    alloc: Global,
+    conn: Connection<S>,
+    words: &[&str],
+    onto: Disks,
+) -> Result<(StepPrinted, Connection<S>, Disks), Fail> {
+    let Disks { files } = onto;
+    match opened(alloc, files) {
+        Ok(mut new) => {
+            let (said, conn) = mended(alloc, conn, words, &mut new)?;
+            let files = new.into_store().close();
+            Ok((said, conn, Disks { files }))
+        }
+        Err(_) => Err(Fail::from("the new files aren't opened")),
+    }
+}
+
 /// Returns a disk with the same bytes, all of them synced, that fails after `calls` calls.
 fn copy_of(alloc: Global, disk: &Fuse<Memory>, calls: u64) -> Result<Fuse<Memory>, Fail> {
     let mut copy = Memory::new(alloc);
@@ -133,13 +151,14 @@ impl TestHost for Disks {
         words: &[&str],
         onto: Disks,
     ) -> Result<(StepPrinted, Disks, Disks), Fail> {
-        let (Disks { files }, Disks { files: blank }) = (self, onto);
-        let (Ok(conn), Ok(mut new)) = (opened(alloc, files), opened(alloc, blank)) else {
-            return Err(Fail::from("the files aren't opened"));
-        };
-        let (said, conn) = mended(alloc, conn, words, &mut new)?;
-        let files = conn.into_store().close();
-        let made = new.into_store().close();
-        Ok((said, Disks { files }, Disks { files: made }))
+        let Disks { files } = self;
+        match opened(alloc, files) {
+            Ok(conn) => {
+                let (said, conn, made) = mend_over(alloc, conn, words, onto)?;
+                let files = conn.into_store().close();
+                Ok((said, Disks { files }, made))
+            }
+            Err(_) => Err(Fail::from("the office isn't opened")),
+        }
     }
 }
