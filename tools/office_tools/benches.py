@@ -1,17 +1,8 @@
 """What the program costs, and how often papers are keyed."""
-import contextlib
-import itertools
-import json
-import os
-import random
-import resource
-import select
-import statistics
-import subprocess
-from concurrent.futures import ThreadPoolExecutor
+import contextlib, json, os, random, resource, select
 
 from office_tools.election import COPYING, ELECTION, END, READS, REPLAY, SCRIPTED, Order, keying, marks_of, ward_orders
-from office_tools.office import HERE, Office, Table, needs, program as program_of, request, status, temporary_folder, timed, wrong_if
+from office_tools.office import HERE, Office, Table, needs, program as program_of, ran, request, side_by_side, status, timed, wrong_if
 from office_tools.players import keys_of
 
 CANDIDATES, SEATS, BATCH, RUNS = 10, 4, 500, 5
@@ -28,14 +19,6 @@ def nominated(folder, *batches):
     candidates = [f"Candidate {c}" for c in range(1, CANDIDATES + 1)]
     return Office(folder).begin(ward_orders(*batches, candidates=candidates, seats=SEATS, ward=8, name="Quay"))
 
-def keyed_ward(folder, count):
-    chance, batches = random.Random(7), range(100, 100 + count // BATCH)
-    office = nominated(folder, *((batch, BATCH, 4, 9) for batch in batches))
-    for batch in batches:
-        office.write(f"{batch}.csv", keying(papers(chance, BATCH), range(1, CANDIDATES + 1)))
-    office.replay([f"import-keying {clerk} {batch} 1 {batch}.csv --id k{batch}" for batch in batches for clerk in (4, 9)])
-    return office
-
 def best(office, order, is_served=False):
     found = []
     for _ in range(RUNS):
@@ -46,20 +29,23 @@ def best(office, order, is_served=False):
         found.append(1000 * seconds)
     return min(found)
 
-def measured(count):
+def measured(folder, count):
     reads = [*READS, (SCRIPTED[0], REPLAY), (END, COPYING)]
-    with temporary_folder() as folder:
-        office = keyed_ward(folder / "town", count)
-        found = {"`init`": f"{best(Office(folder / 'empty'), ELECTION[0]):.0f} ms"}
-        for number, order in enumerate([*ELECTION[1:], *LARGE], 1):
-            for one in (*(read for place, read in reads if place == number), order):
-                found[f"`{one.name[:32].strip()}`"] = f"{best(office, one):.0f} ms; {best(office, one, is_served=True):.0f} ms"
-            order.put_files(office)
-            office.do(*order.words)
+    chance, batches = random.Random(7), range(100, 100 + count // BATCH)
+    office = nominated(folder / "town", *((batch, BATCH, 4, 9) for batch in batches))
+    for batch in batches:
+        office.write(f"{batch}.csv", keying(papers(chance, BATCH), range(1, CANDIDATES + 1)))
+    office.replay([f"import-keying {clerk} {batch} 1 {batch}.csv --id k{batch}" for batch in batches for clerk in (4, 9)])
+    found = {"`init`": f"{best(Office(folder / 'empty'), ELECTION[0]):.0f} ms"}
+    for number, order in enumerate([*ELECTION[1:], *LARGE], 1):
+        for one in (*(read for place, read in reads if place == number), order):
+            found[f"`{one.name[:32].strip()}`"] = f"{best(office, one):.0f} ms; {best(office, one, is_served=True):.0f} ms"
+        order.put_files(office)
+        office.do(*order.words)
     found["the most memory so far"] = f"{resource.getrusage(resource.RUSAGE_CHILDREN).ru_maxrss / 1024:.0f} MB"
     return found
 
-def bench_cost(*papers: int):
+def bench_cost(room, *papers: int):
     """Measures each order, alone and while the office is served, in offices of several sizes, and prints a table.
 
     An office has a ward of PAPERS papers, by default 1000 10000 100000, which come from a fixed generator; it has 10 candidates and 4
@@ -68,7 +54,7 @@ def bench_cost(*papers: int):
     memory, which is that of `journal`. Take the machine for half an hour.
     """
     sizes = sorted(papers) or (1000, 10000, 100000)
-    columns = [measured(count) for count in sizes]
+    columns = [measured(room / str(count), count) for count in sizes]
     table = Table("Order, alone; while it is served", *(f"{count:,} papers" for count in sizes))
     for name in columns[0]:
         table.row(name, *(found[name] for found in columns))
@@ -81,35 +67,27 @@ WORK = "/clerks/1/work"
 def office_to_key(folder, rounds, size):
     chance, requests, batches = random.Random(7), {clerk: [] for clerk in CLERKS}, []
     for number in range(1, rounds * len(CLERKS) + 1):
-        clerk = number % len(CLERKS) + 1
-        body = json.dumps({"id": f"k{number}", "round": 1, "papers": papers(chance, size)})
+        clerk, body = number % len(CLERKS) + 1, json.dumps({"id": f"k{number}", "round": 1, "papers": papers(chance, size)})
         requests[clerk].append(request(f"/clerks/{clerk}/batches/{number}/keying", body=body))
         batches.append((number, size, clerk, 999))
     return nominated(folder, *batches), requests
 
-def asked(serving, sends):
-    text, seconds = timed(serving.ask, sends)
-    wrong_if(status(text) != 200, f"{sends[:200]}: {text}")
-    return seconds
-
 def keyed(serving, requests):
     """Has clerks key at once. Returns how many keyings are answered a second, and how long the slowest took, in ms."""
-    with ThreadPoolExecutor(len(requests)) as pool:
-        found, seconds = timed(list, pool.map(lambda own: [asked(serving, sends) for sends in own], requests))
-    times = [took for times in found for took in times]
+    found, seconds = timed(list, side_by_side(lambda own: [timed(serving.ask, sends) for sends in own], requests, len(requests)))
+    texts, times = zip(*(answered for own in found for answered in own))
+    wrong_if(wrong := [text for text in texts if status(text) != 200], f"a keying is answered by {wrong[:1]}")
     return len(times) / seconds, 1000 * max(times)
 
 def reads_a_second(port, clients, seconds):
     """Returns how many requests for a clerk's work are answered a second, as `ab` counts them; none may fail."""
     def count(part):
         words = ["ab", "-q", "-t", str(seconds), "-n", "1000000", "-c", str(len(part)), f"http://{HERE}:{port}{WORK}"]
-        told = subprocess.run(words, capture_output=True, text=True, check=False).stdout
+        told = ran(*words).out
         found = dict(line.split(":", 1) for line in told.splitlines() if ":" in line)
         wrong_if(found.get("Failed requests", "").strip() != "0" or "Non-2xx responses" in found, f"ab: {told}")
         return float(found["Requests per second"].split()[0])
-    parts = [range(first, clients, LOADS) for first in range(min(LOADS, clients))]
-    with ThreadPoolExecutor(len(parts)) as pool:
-        return sum(pool.map(count, parts))
+    return sum(side_by_side(count, [range(first, clients, LOADS) for first in range(min(LOADS, clients))], LOADS))
 
 def figures(folder, rounds):
     found = {}
@@ -129,7 +107,7 @@ def figures(folder, rounds):
                 found["memory, MB"] = serving.memory()
     return found
 
-def bench_serving(rounds=5, *, program: list = ()):
+def bench_serving(room, rounds=5, *, program: list = ()):
     """Times clients that are served side by side, and prints a table. It needs `ab` of apache2-utils.
 
     Each program that --program A --program B names serves a few times, in turns, or the one alone that is set: the table has the middle of
@@ -139,15 +117,14 @@ def bench_serving(rounds=5, *, program: list = ()):
     """
     needs("ab")
     found = {path: [] for path in program or [program_of()]}
-    for _ in range(TURNS):
-        for path, results in found.items():
+    for turn in range(TURNS):
+        for number, (path, results) in enumerate(found.items()):
             os.environ["COUNT_OFFICE"] = path
             program_of.cache_clear()
-            with temporary_folder() as folder:
-                results.append(figures(folder, rounds))
+            results.append(figures(room / f"{turn}-{number}", rounds))
     table = Table(f"The middle of {TURNS} turns", *found)
     for what in results[0]:
-        middle = [statistics.median(result[what] for result in results) for results in found.values()]
+        middle = [sorted(result[what] for result in results)[TURNS // 2] for results in found.values()]
         table.row(what, *(f"{count:,.0f} ({count / max(1, middle[0]):.2f})" for count in middle))
 
 SIZES, RATES, RECOMMENDED, MOST = (25, 50, 75, 100), (0.003, 0.005, 0.01, 0.02), (50, 0.01), 2.6
@@ -176,15 +153,6 @@ def voted(size, columns, chance):
         papers.append(chance.choice(["D", "," * (columns - 1), ",12" + "," * (columns - 2)] + 30 * [",".join(fields)]))
     return papers
 
-def print_keys(papers):
-    # In a spreadsheet Tab moves on, and Enter ends the row.
-    plain, numbers = sum(len(text.rstrip(",")) + 1 for text in papers), sum(len(str(number + 1)) + 1 for number in range(len(papers)))
-    counts = {"the page": sum(len(keys_of(text)) for text in papers), "a spreadsheet, the papers' numbers typed": plain + numbers,
-              "a spreadsheet, the numbers filled in before": plain}
-    table = Table("50 papers of 5 candidates", "keys", "a paper", "at three keys a second")
-    for what, count in counts.items():
-        table.row(what, count, f"{count / len(papers):.1f}", f"{count / 3:.0f} s")
-
 def bench_rounds(*, finds=0.9, takes=1 / 3):
     """Computes how many keys a paper takes, and how often each is keyed until its batch is taken.
 
@@ -194,8 +162,13 @@ def bench_rounds(*, finds=0.9, takes=1 / 3):
     keyed again. At slips of 1% in batches of 50 it may take at most 2.6 keyings' time a paper. 2.0 is the least that two clerks can take.
     """
     table = Table("Slips", "papers in a batch", "keyed anew", "gone through", "batches that differ at first")
-    for rate, size in itertools.product(RATES, SIZES):
+    for rate, size in ((rate, size) for rate in RATES for size in SIZES):
         read = gone_through(rate, size, finds, takes)
         table.row(f"{rate:.1%}", size, f"{keyed_anew(rate, size):.1f}", f"{read:.2f}", f"{1 - (1 - rate) ** (2 * size):.0%}")
         wrong_if((size, rate) == RECOMMENDED and read > MOST, f"batches of {size} take {read:.2f} keyings' time a paper, more than {MOST}")
-    print_keys(voted(50, 5, random.Random(11)))
+    papers, table = voted(50, 5, random.Random(11)), Table("50 papers of 5 candidates", "keys", "a paper", "at three keys a second")
+    # In a spreadsheet Tab moves on, and Enter ends the row.
+    plain, numbers = sum(len(text.rstrip(",")) + 1 for text in papers), sum(len(str(number)) + 1 for number, _ in enumerate(papers, 1))
+    for what, count in (("the page", sum(map(len, map(keys_of, papers)))), ("a spreadsheet, the papers' numbers typed", plain + numbers),
+                        ("a spreadsheet, the numbers filled in before", plain)):
+        table.row(what, count, f"{count / len(papers):.1f}", f"{count / 3:.0f} s")

@@ -1,16 +1,12 @@
 """The entry points tools/try, tools/bench and tools/check: `tools/try NAME` calls the function try_NAME of a module in tries/.
 
 Its parameters are the tool's words: those with a default may be left out, and those by keyword alone are options. An annotation, or the
-type of the default, says how a word is read.
+type of the default, says how a word is read. `room` is no word, but an empty folder that is removed at the end.
 """
-import argparse
-import ast
-import importlib
-import inspect
-import sys
+import argparse, ast, importlib, inspect, sys
 from pathlib import Path
 
-from office_tools.office import Wrong
+from office_tools.office import Wrong, temporary_folder
 
 HERE = Path(__file__).parent
 MODULES = {"try": "tries/*.py", "bench": "benches.py", "check": "checks/*.py"}
@@ -22,27 +18,27 @@ def tools(kind):
     return {it.name.removeprefix(kind + "_").replace("_", "-"): (path, ast.get_docstring(it)) for path, it in functions
             if it.name.startswith(kind + "_")}
 
-def add_word(parser, word):
-    default = None if word.default is word.empty else word.default
-    kind = word.annotation if word.annotation is not word.empty else str if default is None else type(default)
-    shown = f"default {default}" if default else None
-    if word.kind is word.KEYWORD_ONLY:
-        taken = {bool: {"action": "store_true"}, list: {"action": "append", "default": []}}.get(kind, {"type": kind, "default": default})
-        parser.add_argument(f"--{word.name}", help=shown, **taken)
-    else:
-        count = "*" if word.kind is word.VAR_POSITIONAL else "?" if word.default is not word.empty else None
-        parser.add_argument(word.name, type=kind, nargs=count, default=default, metavar=word.name.upper(), help=shown)
-
-def call(tool, prog, documentation, words):
-    """Calls a function with words, and returns the status: 1 if a condition isn't met, or it returns faults."""
+def call(tool, prog, documentation, words=None):
+    """Calls a function with words, and returns the status: 1 if a condition isn't met, or it returns or yields faults."""
     parser = argparse.ArgumentParser(prog=prog, description=documentation, formatter_class=argparse.RawDescriptionHelpFormatter)
     signature = inspect.signature(tool)
-    for word in signature.parameters.values():
-        add_word(parser, word)
+    for word in (it for it in signature.parameters.values() if it.name != "room"):
+        default = None if word.default is word.empty else word.default
+        kind = word.annotation if word.annotation is not word.empty else str if default is None else type(default)
+        shown = f"default {default}" if default else None
+        if word.kind is word.KEYWORD_ONLY:
+            how = {bool: {"action": "store_true"}, list: {"action": "append", "default": []}}.get(kind, {"type": kind, "default": default})
+            parser.add_argument(f"--{word.name}", help=shown, **how)
+        else:
+            count = "*" if word.kind is word.VAR_POSITIONAL else "?" if word.default is not word.empty else None
+            parser.add_argument(word.name, type=kind, nargs=count, default=default, metavar=word.name.upper(), help=shown)
     bound = signature.bind_partial()
     bound.arguments.update(vars(parser.parse_args(words)))
     try:
-        found = tool(*bound.args, **bound.kwargs) or 0
+        with temporary_folder() as room:
+            bound.arguments.update({"room": room} if "room" in signature.parameters else {})
+            found = tool(*bound.args, **bound.kwargs) or 0
+            found = list(found) if inspect.isgenerator(found) else found
     except Wrong as wrong:
         print(f"{prog}: {wrong}", file=sys.stderr)
         return 1

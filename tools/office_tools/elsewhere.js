@@ -6,35 +6,32 @@
   const work = `${office}/clerks/4/work`;
   const read = async (address, options) => (await fetch(address, {credentials: 'include', ...options})).text();
   const key = (options) => (target, body) => read(target, {method: 'POST', headers: {'Content-Type': 'text/plain'}, body, ...options});
-  const shown = (frame) => (frame.contentDocument ? frame.contentDocument.body.innerText : '');
-  const framed = async () => {
-    const frame = made('iframe', {src: work});
+  const framed = async (fields, act = () => {}) => {
+    const frame = made('iframe', fields);
     document.body.append(frame);
+    act(frame);
     await wait(2);
-    return shown(frame);
+    return frame.contentDocument ? frame.contentDocument.body.innerText : '';
   };
   const opened = async () => {
     const other = open(`${office}/clerks/4/`);
     await wait(2);
     try { return other.document.body.innerText; } finally { other.close(); }
   };
-  const form = async (target, body) => {
+  const form = (target, body) => framed({name: `answers${Math.random()}`}, ({name}) => {
     const [front, rest] = body.split('"id":');
-    const frame = made('iframe', {name: `answers${Math.random()}`});
-    const it = made('form', {method: 'POST', enctype: 'text/plain', action: target, target: frame.name});
+    const it = made('form', {method: 'POST', enctype: 'text/plain', action: target, target: name});
     it.append(made('input', {name: `${front}"id":"`, value: `","id":${rest}`}));
-    document.body.append(frame, it);
+    document.body.append(it);
     it.submit();
-    await wait(2);
-    return shown(frame);
-  };
+  });
   const ways = {
     'a POST of text/plain (fetch, no-cors)': key({mode: 'no-cors'}),
     'a POST of text/plain (fetch)': key({}),
     'a POST of text/plain (sendBeacon)': async (target, body) => { navigator.sendBeacon(target, body); return wait(2); },
     'a form of text/plain': form,
     'the work (fetch)': () => read(work),
-    'the work in a frame': framed,
+    'the work in a frame': () => framed({src: work}),
     'the page in a window': opened,
   };
   const tries = [];

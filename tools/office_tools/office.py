@@ -1,32 +1,15 @@
 """An office in a folder: the program that runs on its file, serves it, and is killed; requests, crowds of clients, and a proxy."""
-import asyncio
-import base64
-import collections
-import contextlib
-import functools
-import itertools
-import os
-import re
-import shutil
-import socket
-import socketserver
-import sqlite3
-import subprocess
-import tempfile
-import threading
-import time
+import asyncio, base64, collections, contextlib, functools, itertools, os, re, shutil, socket, socketserver, sqlite3, subprocess
+import tempfile, threading, time
+from concurrent.futures import ThreadPoolExecutor
 from pathlib import Path
 
-HERE = "127.0.0.1"
-PATIENCE = 60
+HERE, SECONDS = "127.0.0.1", 60
 PAGE = b"HTTP/1.1 200 OK\r\nContent-Type: text/html\r\nConnection: close\r\n\r\n<!DOCTYPE html><title>elsewhere</title><body>"
 
-def request(target, *headers, body="", method=""):
-    """Returns a request; with a body it is a POST, unless another method is named."""
-    lines = [f"{method or ('POST' if body else 'GET')} {target} HTTP/1.1", *headers]
-    if body:
-        lines.append(f"Content-Length: {len(body.encode())}")
-    return "\r\n".join([*lines, "", body]).encode()
+def request(target, *headers, body=""):
+    length = [f"Content-Length: {len(body.encode())}"] if body else []
+    return "\r\n".join([f"{'POST' if body else 'GET'} {target} HTTP/1.1", *headers, *length, "", body]).encode()
 
 def basic(name, code):
     return "Basic " + base64.b64encode(f"{name}:{code}".encode()).decode()
@@ -47,63 +30,50 @@ def answer(line, sends, shut=False):
             line.shutdown(socket.SHUT_WR)
     return received(line)
 
-def ask(port, sends, host=HERE, seconds=PATIENCE, **how):
+def ask(port, sends, host=HERE, seconds=SECONDS, **how):
     return answer(socket.create_connection((host, port), timeout=seconds), sends, **how)
 
 def status(text):
     return int(text[9:12]) if re.match(rb"HTTP/1\.1 \d{3} ", text) else 0
 
-def is_whole(text):
-    """Returns whether this is the whole of an answer with status 200."""
-    found = re.fullmatch(rb"HTTP/1\.1 200 OK\r\n.*?Content-Length: (\d+)\r\n.*?\r\n\r\n(.*)", text, re.DOTALL)
-    return bool(found) and len(found[2]) == int(found[1])
-
-class Crowd(threading.Thread):
+@contextlib.contextmanager
+def crowd(port, count, sends=b"", *, host=HERE, goes=False, reads=True):
     """Clients who say nothing, or what they are given to send, during a `with`. One that is disconnected, or goes, connects again."""
+    came, is_over = [], threading.Event()
 
-    def __init__(self, port, count, sends=b"", *, host=HERE, goes=False, reads=True):
-        super().__init__(daemon=True)
-        self.address, self.count, self.came, self.is_over = (host, port), count, 0, False
-        self.sends, self.goes, self.reads = sends, goes, reads
-
-    async def connect(self):
-        """Connects, and stays until it is disconnected."""
+    async def connect():
         loop = asyncio.get_running_loop()
-        with socket.socket(socket.AF_INET6 if ":" in self.address[0] else socket.AF_INET) as line, contextlib.suppress(OSError):
-            if not self.reads:
+        with socket.socket(socket.AF_INET6 if ":" in host else socket.AF_INET) as line, contextlib.suppress(OSError):
+            if not reads:
                 # What nobody reads fills these sockets soon.
                 line.setsockopt(socket.IPPROTO_TCP, socket.TCP_MAXSEG, 536)
                 line.setsockopt(socket.SOL_SOCKET, socket.SO_RCVBUF, 1)
             line.setblocking(False)
-            await loop.sock_connect(line, self.address)
-            await loop.sock_sendall(line, self.sends)
-            self.came += 1
-            while not self.goes and (not self.reads or await loop.sock_recv(line, 65536)):
-                await asyncio.sleep(0 if self.reads else PATIENCE)
+            await loop.sock_connect(line, (host, port))
+            await loop.sock_sendall(line, sends)
+            came.append(host)
+            while not goes and (not reads or await loop.sock_recv(line, 65536)):
+                await asyncio.sleep(0 if reads else SECONDS)
 
-    async def stay(self, number):
+    async def stay(number):
         # Of those that go, five hundred come a second: more would ask than the office can answer.
-        pause = self.count / 500 if self.goes else 0.01
-        await asyncio.sleep(number * pause / self.count)
-        while True:
-            await asyncio.gather(self.connect(), asyncio.sleep(pause))
+        pause = count / 500 if goes else 0.01
+        await asyncio.sleep(number * pause / count)
+        while not is_over.is_set():
+            await asyncio.gather(connect(), asyncio.sleep(pause))
 
-    async def all(self):
-        clients = [asyncio.create_task(self.stay(number)) for number in range(self.count)]
-        while clients and not self.is_over:
+    async def stay_all():
+        clients = [asyncio.create_task(stay(number)) for number in range(count)]
+        while clients and not is_over.is_set():
             await asyncio.sleep(0.05)
 
-    def run(self):
-        asyncio.run(self.all())
-
-    def __enter__(self):
-        self.start()
-        return self
-
-    def __exit__(self, kind, *_):
-        self.is_over = True
-        self.join()
-        assert kind or self.came >= self.count, f"of {self.count} clients {self.came} came"
+    with ThreadPoolExecutor(1) as pool:
+        pool.submit(asyncio.run, stay_all())
+        try:
+            yield came
+        finally:
+            is_over.set()
+    wrong_if(len(came) < count, f"of {count} clients {len(came)} came")
 
 class Carried(socketserver.StreamRequestHandler):
     """A request that comes to a proxy, which carries it to the office, and the answer back."""
@@ -139,13 +109,11 @@ class Proxy(socketserver.ThreadingTCPServer):
         self.shutdown()
         self.server_close()
 
-ROOT = Path(__file__).resolve().parents[2]
+ROOT, PORTS = Path(__file__).resolve().parents[2], itertools.count()
 TOWN, LOG, SCRIPT = "town.db", "town.db-wal", "orders.txt"
-SECONDS = 60
 # The largest number of connections that `serve` accepts. Without this word there is no limit; programs up to 1.6.0 want it.
 CONNECTIONS = 1000000
 STORE, NO_OFFICE = "fault 102: store\n", "fault 105: wrong database\n"
-PORTS = itertools.count()
 # Debian's packages of commands that have another name.
 PACKAGES = {"node": "nodejs", "ab": "apache2-utils", "chromedriver": "chromium-driver"}
 
@@ -156,14 +124,22 @@ def wrong_if(is_wrong, what):
     if is_wrong:
         raise Wrong(what)
 
-class Table:
-    """A table in Markdown, as the pages of docs/ have them, printed row by row."""
+def expect(what, found, wanted):
+    wrong_if(found != wanted, f"{what}: {found!r}, and not {wanted!r}")
 
-    printed = 0
+@contextlib.contextmanager
+def about(what, *errors):
+    """Says what a condition that isn't met is about, and makes other errors such a condition."""
+    try:
+        yield
+    except (Wrong, *errors) as error:
+        raise Wrong(f"{what}: {error}") from error
+
+class Table:
+    """A table in Markdown, as the pages of docs/ have them, printed row by row after an empty line."""
 
     def __init__(self, *heads):
-        print(end="\n" * (Table.printed > 0))
-        Table.printed += 1
+        print()
         self.row(*heads)
         print("|---" * len(heads) + "|")
 
@@ -174,7 +150,6 @@ class Table:
         for what, number in counts.items():
             self.row(what, number)
 
-# How the program ended: its status, its output and its error output.
 Printed = collections.namedtuple("Printed", "status out err", defaults=("", ""))
 
 @functools.cache
@@ -185,10 +160,15 @@ def program(variable="COUNT_OFFICE"):
     subprocess.run([ROOT / "count-office", "--help"], stdout=subprocess.DEVNULL, check=True)
     return str(ROOT / "out" / variable.lower().replace("_", "-"))
 
+def ran(*words, text=True, **how):
+    """Runs a command, which has nothing to read but `input`, and returns its status and both outputs."""
+    reads = {} if "input" in how else {"stdin": subprocess.DEVNULL}
+    done = subprocess.run(words, capture_output=True, text=text, check=False, **reads, **how)
+    return Printed(done.returncode, done.stdout, done.stderr)
+
 def checker(*words, **how):
-    """Runs the program that needs no office, and returns its status and both outputs, as bytes."""
-    ran = subprocess.run([program("CHECK_COUNT"), *words], capture_output=True, timeout=SECONDS, check=False, **how)
-    return ran.returncode, ran.stdout, ran.stderr
+    """Runs the program that needs no office. Its outputs are bytes."""
+    return ran(program("CHECK_COUNT"), *words, text=False, timeout=SECONDS, **how)
 
 def needs(*commands):
     if missing := [PACKAGES.get(command, command) for command in commands if not shutil.which(command)]:
@@ -217,9 +197,17 @@ def ended(process, seconds=SECONDS):
     return Printed(process.returncode, *(text.decode("utf-8", "surrogateescape") for text in printed))
 
 @contextlib.contextmanager
-def temporary_folder():
-    with tempfile.TemporaryDirectory() as folder:
+def temporary_folder(**how):
+    with tempfile.TemporaryDirectory(**how) as folder:
         yield Path(folder)
+
+def side_by_side(act, items, most=0):
+    """Yields what a function returns of each item, at most so many at once, or as many as there are processors; what it raises ends all."""
+    with ThreadPoolExecutor(most or len(os.sched_getaffinity(0))) as pool:
+        try:
+            yield from pool.map(act, items)
+        finally:
+            pool.shutdown(wait=False, cancel_futures=True)
 
 def open_many_files():
     import resource  # Not every machine on which ballots are counted anew has it.
@@ -230,12 +218,12 @@ def timed(act, *words):
     began = time.perf_counter()
     return act(*words), time.perf_counter() - began
 
-def waited(is_so, seconds=SECONDS):
+def waited(is_so, seconds=SECONDS, pause=0.0005):
     """Waits until something is so, at most some seconds. Returns whether it is."""
     until = time.monotonic() + seconds
-    while not is_so() and time.monotonic() < until:
-        time.sleep(0.0005)
-    return is_so()
+    while not (found := is_so()) and time.monotonic() < until:
+        time.sleep(pause)
+    return found
 
 def listens(address, family=socket.AF_INET):
     with socket.socket(family) as line:
@@ -258,24 +246,23 @@ class Office:
     def run(self, *words, seconds=SECONDS, **how):
         return ended(self.start(*words, **how), seconds)
 
-    def do(self, *words):
-        printed = self.run(*words)
-        if printed.status:
-            raise Wrong(f"{' '.join(map(str, words))}: {printed}")
+    def do(self, *words, **how):
+        printed = self.run(*words, **how)
+        wrong_if(printed.status, f"{' '.join(map(str, words))}: {printed}")
         return printed.out
 
     def write(self, name, lines):
         (self.folder / name).write_text("".join(f"{line}\n" for line in lines), encoding="utf-8", newline="")
 
-    def replay(self, lines):
+    def replay(self, lines, **how):
         self.write(SCRIPT, lines)
-        return self.do("replay", SCRIPT)
+        return self.do("replay", SCRIPT, **how)
 
-    def begin(self, lines=()):
+    def begin(self, lines=(), **how):
         """Makes the office, sends these orders as one script, and returns the office."""
         wrong_if((printed := self.run("init")) != (0, "office ready\n", ""), f"init: {printed}")
         if lines:
-            self.replay(lines)
+            self.replay(lines, **how)
         return self
 
     def write_codes(self, codes):
@@ -299,16 +286,15 @@ class Office:
 
         An `init` that was stopped may leave a file without the first byte of a database's.
         """
-        with tempfile.TemporaryDirectory() as folder:
-            with contextlib.closing(sqlite3.connect(self.copied(folder, town).folder / TOWN)) as base:
-                try:
-                    whole = base.execute("PRAGMA integrity_check").fetchall()
-                    tables = base.execute("SELECT name FROM sqlite_schema WHERE type = 'table' ORDER BY name").fetchall()
-                    found = {name: sorted(base.execute(f"SELECT * FROM {name}").fetchall()) for (name,) in tables}
-                except sqlite3.DatabaseError as error:
-                    if "file is not a database" in str(error):
-                        return None
-                    raise Wrong(f"SQLite: {error}") from error
+        with temporary_folder() as folder, contextlib.closing(sqlite3.connect(self.copied(folder, town).folder / TOWN)) as base:
+            try:
+                whole = base.execute("PRAGMA integrity_check").fetchall()
+                tables = base.execute("SELECT name FROM sqlite_schema WHERE type = 'table' ORDER BY name").fetchall()
+                found = {name: sorted(base.execute(f"SELECT * FROM {name}").fetchall()) for (name,) in tables}
+            except sqlite3.DatabaseError as error:
+                if "file is not a database" in str(error):
+                    return None
+                raise Wrong(f"SQLite: {error}") from error
         wrong_if(whole != [("ok",)], f"the file isn't whole: {whole}")
         return found or None
 
@@ -322,13 +308,12 @@ class Serving(contextlib.AbstractContextManager):
     def __exit__(self, *_):
         self.kill()
 
-    def connect(self, seconds=SECONDS):
+    def connect(self):
         """Connects to it as soon as it listens. Returns None if it ended before."""
         while self.process.poll() is None:
-            try:
-                return socket.create_connection((HERE, self.port), timeout=seconds)
-            except ConnectionRefusedError:
-                time.sleep(0.001)
+            with contextlib.suppress(ConnectionRefusedError):
+                return socket.create_connection((HERE, self.port), timeout=SECONDS)
+            time.sleep(0.001)
         return None
 
     def wait(self):
@@ -340,15 +325,6 @@ class Serving(contextlib.AbstractContextManager):
     def ask(self, sends, **how):
         line = self.connect()
         return answer(line, sends, **how) if line else b""
-
-    def ended(self, seconds=SECONDS):
-        return ended(self.process, seconds)
-
-    def killed_after(self, seconds=None):
-        """Begins to wait for so many seconds, and kills it then; without a number it does nothing."""
-        killer = threading.Timer(seconds or 0, self.process.kill if seconds is not None else bool)
-        killer.start()
-        return killer
 
     def kill(self):
         if self.process.stdout.closed:

@@ -1,26 +1,29 @@
-"""People at pages of the office in Chromium, which Debian's python3-selenium drives: the returning officer, tellers, those at
-the screen in the hall; and an evening."""
-import contextlib
-import functools
-import json
-import re
-import sys
-import time
+"""People at pages of the office in Chromium, which Debian's python3-selenium drives: officer, tellers, screen in the hall; an evening."""
+import contextlib, json, re, sys, time
 
 from office_tools.election import CODES, OFFICE_CODE
-from office_tools.office import HERE, SCRIPT, SECONDS, Office, Proxy, Wrong, free_port, needs, temporary_folder, wrong_if
+from office_tools.office import HERE, SECONDS, Office, Proxy, Wrong, about, free_port, needs, temporary_folder, waited, wrong_if
 
 WORDS = ["--headless=new", "--no-sandbox", "--disable-gpu", "--no-first-run", "--disable-background-networking"]
 
 class Browser(contextlib.AbstractContextManager):
+    def __init_subclass__(cls):
+        """Makes each step of a class that returns nothing return its object, so that a play is read as a row of steps."""
+        def returning(step):
+            def taken(self, *words, **how):
+                found = step(self, *words, **how)
+                return self if found is None else found
+            return taken
+        for name, step in list(vars(cls).items()):
+            if not name.startswith("_") and callable(step):
+                setattr(cls, name, returning(step))
+
     def __init__(self, words=()):
         needs("chromium", "chromedriver")
         # Where Debian has its modules: Python may be another one.
         sys.path.append("/usr/lib/python3/dist-packages")
-        try:
+        with about("on Debian: apt-get install python3-selenium", ImportError):
             from selenium import webdriver
-        except ImportError as error:
-            raise Wrong("selenium is missing; on Debian: apt-get install python3-selenium") from error
         options = webdriver.ChromeOptions()
         for word in (*WORDS, *words):
             options.add_argument(word)
@@ -54,11 +57,8 @@ class Browser(contextlib.AbstractContextManager):
         return self.driver.execute_script(f"return (\n{expression}\n)")
 
     def until(self, expression):
-        end = time.monotonic() + SECONDS
-        while not self.value(expression):
-            if time.monotonic() > end:
-                raise Wrong(f"never: {expression}; the page shows {self.text()!r}")
-            time.sleep(0.05)
+        if not waited(lambda: self.value(expression), pause=0.05):
+            raise Wrong(f"never: {expression}; the page shows {self.text()!r}")
 
     def text(self):
         return self.value("document.body ? document.body.innerText : ''")
@@ -80,36 +80,24 @@ SECTIONS = ["overview", "nominations", "batches", "doubtful", "count", "journal"
 FOCUSED = """(({id, dataset, tagName, parentElement}) => [dataset?.key, id, tagName === 'SUMMARY' && parentElement.id].filter(Boolean))(
     document.activeElement ?? {})"""
 
-def chained(kind):
-    """Makes each step of a class that returns nothing return its object, so that a play is read as a row of steps."""
-    def returning(step):
-        @functools.wraps(step)
-        def taken(self, *words, **how):
-            found = step(self, *words, **how)
-            return self if found is None else found
-        return taken
-    for name, step in list(vars(kind).items()):
-        if not name.startswith("_") and callable(step):
-            setattr(kind, name, returning(step))
-    return kind
-
-@chained
 class Player(Browser):
-    FLAGS = ()
+    FLAGS, keys = (), Browser.press
 
     def __init__(self, evening):
         super().__init__(self.FLAGS)
         self.evening = evening
         self.resize(*self.SIZES[0])
 
-    def complaints(self):
-        return [line for line in self.said() if not re.search(self.EXPECTED, line)]
+    def enter(self, page, login):
+        """Opens a page. The browser has the login from then on, as if it had been typed when the browser asked for it."""
+        self.open(self.evening.address(page, login))
+
+    def anew(self, page):
+        for address in ("about:blank", self.evening.address(page)):
+            self.open(address)
 
     def shows(self, words, part="result"):
         self.until(f"document.getElementById('{part}')?.innerText.includes({json.dumps(words)})")
-
-    def keys(self, *keys):
-        self.press(*keys)
 
     def pictured(self, name):
         """Writes pictures of the whole page, if they are asked for. Nothing is wider than the window."""
@@ -122,22 +110,17 @@ class Player(Browser):
             wrong_if((wide := self.value("document.documentElement.scrollWidth")) > width, f"{name}: {wide} pixels wide at {width}")
         self.resize(*self.SIZES[0])
 
-@chained
 class Officer(Player):
     SIZES, EXPECTED = ((1280, 800), (800, 600), (400, 800)), "ERR_|status of (401|503)|Clear-Site-Data"
     # What the page may ask for: docs/CONSOLE-API.md.
     ASKED = re.compile(r"(GET /office/(|leave|wards(/\d+(/batches|/doubtful)?)?|batches/\d+/(differences|papers)|receipts(\?actor=\d+)?)"
                        r"|POST /office/orders) HTTP/1.1")
 
-    def log_in(self, part=""):
-        """Opens the console. The browser has the login from then on, as if it had been typed when the browser asked for it."""
-        self.open(self.evening.address("office/", f"office:{OFFICE_CODE}@"))
-        self.load(part)
+    def log_in(self):
+        self.enter("office/", f"office:{OFFICE_CODE}@").load()
 
     def load(self, part=""):
-        self.open("about:blank")
-        self.open(self.evening.address(f"office/{part}"))
-        self.shows("Updated at", "health")
+        self.anew(f"office/{part}").shows("Updated at", "health")
 
     def go(self, part, ward=0):
         """Opens a section by its number, and chooses a ward from the list. The first Escape leaves a field, the next one the section."""
@@ -208,7 +191,6 @@ def keys_of(text):
     keys = ["d"] if text == "D" else [key for field in fields for key in ("0" if not field else field if len(field) == 1 else "." + field)]
     return [*keys, "Enter"]
 
-@chained
 class Teller(Player):
     SIZES, EXPECTED = ((1024, 768), (400, 800)), "ERR_"
     ASKED = re.compile(r"(GET /clerks/\d+/(work|leave|batches/\d+/(candidates|keyed))?|POST /clerks/\d+/batches/\d+/keying) HTTP/1.1")
@@ -218,9 +200,7 @@ class Teller(Player):
         self.clerk, self.page = clerk, f"clerks/{clerk}/"
 
     def log_in(self):
-        """Opens the clerk's page. The browser has the login from then on, as if it had been typed when the browser asked for it."""
-        for login in (f"{self.clerk}:{CODES[self.clerk]}@", ""):
-            self.open(self.evening.address(self.page, login))
+        self.enter(self.page, f"{self.clerk}:{CODES[self.clerk]}@").open(self.evening.address(self.page))
         self.until("!document.getElementById('batches').hidden && document.activeElement.tagName === 'BUTTON'")
 
     def keys(self, *keys, at=0):
@@ -252,7 +232,6 @@ CUT = """[...document.querySelectorAll(':root, #which, #title, #view, #view > *,
 def as_shown(text):
     return re.sub("[\u202e\u2066]", "", text).replace("\x85", "\ufffd")
 
-@chained
 class Screen(Player):
     """A screen in the hall, which stays where it is until `look` changes it."""
 
@@ -303,16 +282,8 @@ class Evening:
     def another(self, orders, folder="another"):
         """Serves another office, of these orders, at the same address."""
         self.server.kill()
-        self.office = Office(self.folder / folder).begin()
-        self.office.write(SCRIPT, orders)
-        wrong_if(printed := self.office.run("replay", SCRIPT, seconds=900).err, printed)
+        self.office = Office(self.folder / folder).begin(orders, seconds=900)
         self.start()
-
-    def check(self, players):
-        if strange := {line for line in self.line.asked if not any(player.ASKED.fullmatch(line) for player in players)}:
-            raise Wrong(f"a page asked {strange}")
-        for player in players:
-            wrong_if(strange := player.complaints(), f"the browser said {strange[:5]}")
 
 @contextlib.contextmanager
 def played(pictures, *players, office=lambda folder: Office(folder).begin(), words=("--codes", "codes.txt")):
@@ -325,6 +296,10 @@ def played(pictures, *players, office=lambda folder: Office(folder).begin(), wor
             try:
                 there = [open_browsers.enter_context(player(evening)) for player in players]
                 yield there
-                evening.check(there)
+                asked = {line for line in evening.line.asked if not any(player.ASKED.fullmatch(line) for player in there)}
+                wrong_if(asked, f"a page asked {asked}")
+                for player in there:
+                    strange = [line for line in player.said() if not re.search(player.EXPECTED, line)]
+                    wrong_if(strange, f"the browser said {strange[:5]}")
             finally:
                 evening.server.kill()

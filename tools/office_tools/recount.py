@@ -1,6 +1,5 @@
 """A count of ballots apart from the program, written from the text of the Order alone, as tellers do it who lay papers into parcels."""
-import collections
-import re
+import collections, re
 
 from office_tools.office import Wrong
 
@@ -21,21 +20,23 @@ Bundle = collections.namedtuple("Bundle", "papers preferences")
 class Unreadable(Wrong):
     """What makes a file no ballots file."""
 
+def require(condition, what):
+    if not condition:
+        raise Unreadable(what)
+
 def told_by(comment, is_alone):
     """Returns what a comment of ours says, and its numbers; nothing for another program's. One that only begins as ours can't be read."""
     words = " ".join(re.split("[ \t\r:,]+", comment))
     for what, (form, most) in OURS.items():
         if is_alone and (found := re.fullmatch(f" {form} ?", words, re.ASCII)) and max(map(int, found.groups())) <= most:
             return [(what, [int(number) for number in found.groups()])]
-    if BEGINS_AS_OURS.match(comment):
-        raise Unreadable(f"a comment that begins as ours do: {comment[:40]!r}")
+    require(not BEGINS_AS_OURS.match(comment), f"a comment that begins as ours do: {comment[:40]!r}")
     return []
 
 def words_of(text):
     """Returns the numbers, the shared ranks and the names of a ballots file, and what our comments in it say."""
-    if left := WORD.sub("", text):
-        raise Unreadable(f"neither a number nor a name: {left[:40]!r}")
-    words, ours = [], []
+    left, words, ours = WORD.sub("", text), [], []
+    require(not left, f"neither a number nor a name: {left[:40]!r}")
     for found in WORD.finditer(text):
         name, rank, number, comment = found.groups()
         if name is not None:
@@ -49,8 +50,7 @@ def words_of(text):
 
 def taken(words, kind):
     word = next(words, None)
-    if not isinstance(word, kind):
-        raise Unreadable(f"a number or a name is wanted in place of {'the end' if word is None else repr(word)}")
+    require(isinstance(word, kind), f"a number or a name is wanted, and not {word!r}")
     return word
 
 class Ballots:
@@ -67,11 +67,10 @@ class Ballots:
         self.names = {number: name for number, name in names.items() if number not in self.withdrawn}
         self.ward_name = taken(words, str)
         wards, rejected, lots = ([told for what, told in ours if what == kind] for kind in OURS)
-        self.lots = dict(lots)
-        is_told_twice = len(wards) > 1 or len(rejected) > 1 or len(self.lots) < len(lots)
-        has_papers_for_nothing = (self.bundles or rejected) and len(self.names) <= self.seats
-        if self.seats < 1 or next(words, None) is not None or is_told_twice or has_papers_for_nothing:
-            raise Unreadable("no seats, words after the ward's name, one of our comments again, or papers where nobody has to be chosen")
+        self.lots, has_papers = dict(lots), self.bundles or rejected
+        require(self.seats > 0 and next(words, None) is None, "no seats, or words after the ward's name")
+        require(len(wards) < 2 and len(rejected) < 2 and len(self.lots) == len(lots), "one of our comments again")
+        require(not has_papers or len(self.names) > self.seats, "papers where nobody has to be chosen")
         self.ward, self.rejected = wards[0][0] if wards else 1, rejected[0] if rejected else [0 for _ in CODES]
 
     def bundle(self, papers, words):
@@ -81,8 +80,8 @@ class Ballots:
         preferences = [number for rank in ranks[:next(shared, None)] for number in rank]
         available = tuple(number for number in preferences if number not in self.withdrawn)
         are_numbers = all(number in self.numbers for rank in ranks for number in rank)
-        if papers < 0 or len(set(preferences)) < len(preferences) or not are_numbers or not available:
-            raise Unreadable(f"no bundle: {papers} papers with the ranks {ranks}")
+        is_once = len(set(preferences)) == len(preferences)
+        require(papers > 0 and is_once and are_numbers and available, f"no bundle: {papers} papers with the ranks {ranks}")
         return Bundle(papers, available)
 
 def votes_text(value):
@@ -138,8 +137,7 @@ class Count:
         surpluses = [number for number in self.those("Ee") if self.votes[number] > self.quota]
         giver = self.foremost(surpluses, max) if surpluses else self.foremost(self.those("-"), min)
         if giver and surpluses:
-            # All papers are handed on, each at its part of the surplus, and the quota stays. What they don't take with them, since their
-            # values are cut down, is lost.
+            # All papers are handed on, each at its part of the surplus, and the quota stays. What is cut off their values is lost.
             surplus, credited = self.votes[giver] - self.quota, self.votes[giver]
             self.lost += surplus - self.hand_on(giver, lambda received: surplus * received // credited)
             self.votes[giver] = self.quota
@@ -210,3 +208,12 @@ class Count:
     def declaration(self):
         lines = [f"{number:2} {self.ballots.names[number]}" for number in self.those("Ee" if self.is_contested else "-")]
         return written([f"Ward {self.ballots.ward} {self.ballots.ward_name}", "Elected", *lines])
+
+def counts(lines, choose):
+    """Yields the count of the ballots of these lines; and again after each lot that it needs, which is chosen, and added to the lines."""
+    while True:
+        yield (count := Count(Ballots(written(lines))))
+        if not count.waits:
+            return
+        stage, tied = count.waits
+        lines.append(f"# Lot at stage {stage}: {choose(tied)}")

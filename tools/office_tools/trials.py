@@ -1,12 +1,9 @@
 """Orders that are refused memory or a call on a file, or killed, and what they may print and leave then. `strace` refuses the calls."""
-import os
 import re
-from concurrent.futures import ThreadPoolExecutor
-from pathlib import Path
 
 from office_tools.election import (
-    COPY, COPY_LOG, COPYING, ELECTION, FILE, MADE, READS, REPLAY, REQUESTS, SCRIPTED, Order, earlier_office, offices)
-from office_tools.office import LOG, NO_OFFICE, SCRIPT, TOWN, Wrong, remove, wrong_if
+    COPY, COPY_LOG, COPYING, ELECTION, FILE, MADE, READS, REPLAY, REQUESTS, SCRIPTED, Order, make_older, offices)
+from office_tools.office import LOG, NO_OFFICE, SCRIPT, TOWN, Office, about, remove, wrong_if
 
 NOT_WRITTEN = "fault 110: copy not written"
 # What `serve` prints besides, if it can't make its socket. Clients are served all the same.
@@ -18,8 +15,7 @@ CALL, REFUSED = re.compile(r"^\d+ +(\w+)\(", re.MULTILINE), re.compile(r"\(INJEC
 
 def strace(trace, folder, names, *changes, calls=ON_FILES):
     """Returns the words that run a program under `strace`, which notes its calls on some files of a folder, and changes some of these."""
-    paths = [f"-P{path}" for name in names for path in (name, folder / name)]
-    changed = [f"-einject={change}" for change in changes]
+    paths, changed = [f"-P{path}" for name in names for path in (name, folder / name)], [f"-einject={change}" for change in changes]
     return ["strace", "-D", "-f", "--quiet=all", "-o", trace, f"-etrace={','.join(calls)}", *paths, *changed]
 
 def left(office, status=0):
@@ -32,33 +28,20 @@ class Trial:
     """An order, the office before it, and what it prints and leaves if nothing is refused."""
 
     def __init__(self, folder, office, order, number=0):
-        self.folder, self.office, self.order, self.number = Path(folder), office, order, number
+        self.folder, self.office, self.order, self.number = folder, office, order, number
         after = office.copied(self.folder / "after")
         self.printed = order.done(after)
-        self.is_copy, self.is_script = order.words[0] == "copy", order.words[0] == "replay"
-        self.states = [left(office), *self.between()]
+        self.is_copy, self.is_script, self.states = order.words[0] == "copy", order.words[0] == "replay", [left(office)]
+        if self.is_script or order.words[0] in ("import-candidates", "import-batches"):
+            # What it leaves after each of its records but the last.
+            for count in range(2, len(order.lines)):
+                part = office.copied(self.folder / "part")
+                Order(order.words, order.lines[:count]).done(part)
+                self.states.append(left(part))
         if left(after) != self.states[0]:
             self.states.append(left(after))
 
-    def between(self):
-        """Yields what an order of several records leaves after each but the last."""
-        if self.is_script or self.order.words[0] in ("import-candidates", "import-batches"):
-            for count in range(2, len(self.order.lines)):
-                part = self.office.copied(self.folder / "part")
-                Order(self.order.words, self.order.lines[:count]).done(part)
-                yield left(part)
-
-    def allowed(self, out, faults):
-        """Returns those of some faults that may be printed after an output; a script names the line that was under way."""
-        if self.is_copy and out:
-            return [fault for fault in faults if fault == NOT_WRITTEN]
-        if self.is_script:
-            line = f"line {2 + self.order.replies(out)}: "
-            return [line + fault for fault in faults] + ([] if out else faults)
-        return faults
-
     def is_fault(self, printed, faults):
-        """Returns whether what was printed is one of some faults."""
         status, out, err = printed
         if self.order.sends and not status:
             if not out and not err:
@@ -68,24 +51,21 @@ class Trial:
             return bool(answered) and any(fault.startswith(f"fault {answered[1]}: ") and err in ("", fault + "\n") for fault in faults)
         has_parts = len(self.states) > 2 or self.is_copy or self.order.words[0] == "count"
         whole_lines = out == "" or (has_parts and out.endswith("\n") and self.printed.out.startswith(out))
-        return status == 3 and whole_lines and any(re.fullmatch(fault + "\n", err) for fault in self.allowed(out, faults))
-
-    def place_of(self, printed, found):
-        """Returns the number of the state that was found: the last one if the order was answered."""
-        wrong_if(found not in self.states, f"other rows: {printed}")
-        place, last = self.states.index(found), len(self.states) - 1
-        wrong_if(place != last and (printed == self.printed or printed.out == self.printed.out != ""), f"answered, and lost: {printed}")
-        wrong_if(place < min(last, self.order.replies(printed.out)), f"{place} of {last} records found: {printed}")
-        return place
+        if self.is_copy and out:
+            faults = [fault for fault in faults if fault == NOT_WRITTEN]
+        if self.is_script:
+            # It names the line that was under way.
+            faults = [f"line {2 + self.order.replies(out)}: {fault}" for fault in faults] + ([] if out else faults)
+        return status == 3 and whole_lines and any(re.fullmatch(fault + "\n", err) for fault in faults)
 
     def check_beside(self, office, printed, keeps):
         """Checks that nothing is next to the office but a copy that was reported, or what may be kept of one: all of it, or no office."""
-        there = set(os.listdir(office.folder)) - {TOWN, LOG, FILE, SCRIPT}
+        there = {path.name for path in office.folder.iterdir()} - {TOWN, LOG, FILE, SCRIPT}
         wrong_if(others := there - ({COPY, COPY_LOG} if printed.out or keeps else set()), f"left behind: {others}: {printed}")
         if COPY in there:
             opened = office.copied(self.folder / "opened", COPY).run("wards")
-            if not (opened.status == 0 if office.rows(COPY) else opened == (3, "", NO_OFFICE)):
-                raise Wrong(f"what is left of a copy prints {opened}: {printed}")
+            is_right = opened.status == 0 if office.rows(COPY) else opened == (3, "", NO_OFFICE)
+            wrong_if(not is_right, f"what is left of a copy prints {opened}: {printed}")
 
     def check_again(self, office, printed, place):
         """Checks that the order, given again, prints and leaves what it does if nothing is refused."""
@@ -97,9 +77,10 @@ class Trial:
     def judged(self, here, printed, keeps, is_right):
         """Judges what an order that was stopped printed and left, and gives it again. Returns the number of the state that was found."""
         self.check_beside(here, printed, keeps)
-        place = self.place_of(printed, left(here, printed.status))
-        if not is_right(place):
-            raise Wrong(f"printed {printed}, and {place} of {len(self.states) - 1} records are found")
+        wrong_if((found := left(here, printed.status)) not in self.states, f"other rows: {printed}")
+        place, last = self.states.index(found), len(self.states) - 1
+        wrong_if(place != last and (printed == self.printed or printed.out == self.printed.out != ""), f"answered, and lost: {printed}")
+        wrong_if(place < min(last, self.order.replies(printed.out)) or not is_right(place), f"{place} of {last} records found: {printed}")
         self.check_again(here, printed, place)
         return place
 
@@ -112,8 +93,7 @@ class Trial:
         return here, printed, trace.read_text(errors="replace")
 
     def refused(self, faults, keeps=False, **how):
-        """Gives the order with a refusal. Returns (whether a fault was reported, the number of the state that was found), or None if it met
-        no refusal."""
+        """Gives the order with a refusal. Returns (whether a fault was reported, the number of the state found), or None if it met none."""
         here, printed, trace = self.traced(**how)
         printed = printed._replace(err=printed.err.removeprefix(NO_SOCKET))
         differs, is_met, replies = printed != self.printed, REFUSED.search(trace), self.order.replies(printed.out)
@@ -122,40 +102,25 @@ class Trial:
         return (differs, place) if is_met else None
 
     def runs(self, act, ways):
-        """Stops the order in each way, which has a name and words. Returns [how often it was stopped, how often not, what was found]."""
+        """Stops the order in each way, which has a name. Returns [how often it was stopped, how often not, what was found]."""
         found = []
-        for which, *words in ways:
-            try:
-                found += filter(None, [act(self, *words)])
-            except Wrong as error:
-                raise Wrong(f"{self.order.name}: {which}: {error}") from error
+        for which, how in ways:
+            with about(f"{self.order.name}: {which}"):
+                found += filter(None, [act(self, **how)])
         places, stopped = [place for _, place in found], sum(is_stopped for is_stopped, _ in found)
-        old = sum(place == 0 for place in places)
-        new = sum(place == len(self.states) - 1 for place in places if place)
+        old, new = places.count(0), sum(place == len(self.states) - 1 for place in places if place)
         return [stopped, len(found) - stopped, old, new, len(found) - old - new]
 
 def trials(folder, name="", orders=None):
     """Returns the trials of the election, or those of the orders of one name, each on the office before its order."""
-    folder, is_small, orders = Path(folder), orders is None, orders or ELECTION
-    before = offices(folder, orders)
-    wanted = list(zip(before, orders)) + [(earlier_office(folder / "older"), Order(["migrate"]))]
+    is_small, orders = orders is None, orders or ELECTION
+    before, older = offices(folder, orders), Office(folder / "older")
+    make_older(older.folder / TOWN)
+    wanted = [*zip(before, orders), (older, Order(["migrate"]))]
     if is_small:
         wanted += [(before[number], order) for number, order in READS + REQUESTS]
     wanted += [(before[-1], COPYING), (before[SCRIPTED[0]], REPLAY)]
     found = [Trial(folder / f"trial-{number}", office, order, number) for number, (office, order) in enumerate(wanted)]
     wrong_if(found[-2].states[-1] != (before[-1].rows(),) * 2, "a copy has other rows than its office")
-    if is_small and found[-1].states[-1] != left(before[SCRIPTED[-1] + 1]):
-        raise Wrong("a script leaves other rows than its orders, each given alone")
+    wrong_if(is_small and found[-1].states[-1] != left(before[SCRIPTED[-1] + 1]), "a script leaves other rows than its orders do")
     return [trial for trial in found if name in ("", trial.order.words[0])]
-
-def side_by_side(act, items):
-    """Yields what a function returns of each item, of as many at once as there are processors; what it raises ends the others."""
-    with ThreadPoolExecutor(len(os.sched_getaffinity(0))) as pool:
-        try:
-            yield from pool.map(act, items)
-        finally:
-            pool.shutdown(wait=False, cancel_futures=True)
-
-def added(totals, counts):
-    """Adds a row of numbers to another."""
-    return [total + count for total, count in zip(totals, counts)]

@@ -5,3 +5,4 @@ pub mod PieceLemmas
 pub mod ScreenLemmas
 pub mod ServingLemmas
 pub mod MendLemmas
+mod RemarkLemmas

@@ -5,3 +5,4 @@ pub mod Hosts
 pub mod NewCodes
 pub mod Serving
 pub mod CopyPaths
+pub mod Remarks

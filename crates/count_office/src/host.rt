@@ -26,7 +26,7 @@ pub struct Opened<D, A> {
 pub trait Host {
     type Sockets: Network;
 
-    type Side: ServedFile;
+    type OfficeFile: ServedFile;
 
     /// The network on each port, before it is opened and after it is closed, as far as it is known.
     ghost known: { Self → ℕ → NetworkEntry Self.Sockets.Stream };
@@ -42,13 +42,13 @@ pub trait Host {
         ensures { IsReadAs (codes_at self.now path.now) result };
 
     /// Opens the network on a port.
-    fn open(&mut self, port: u32) -> Result<Opened<Self::Sockets, Self::Side>, Failure>
+    fn open(&mut self, port: u32) -> Result<Opened<Self::Sockets, Self::OfficeFile>, Failure>
         ensures known { IfOk result (λ opened. Self.Sockets.known opened.network ≡ known self.old port) }
         ensures file { IfOk result (λ opened. IfSome (file self.old) (λ numbers. opened.file ≡ numbers)) }
         ensures same { known self.new ≡ known self.old };
 
     /// Closes the network on a port.
-    fn close(&mut self, port: u32, opened: Opened<Self::Sockets, Self::Side>)
+    fn close(&mut self, port: u32, opened: Opened<Self::Sockets, Self::OfficeFile>)
         ensures known { known self.new port ≡ Self.Sockets.known opened.network }
         ensures others { (other : ℕ) → other ≢ port → known self.new other ≡ known self.old other };
 }

@@ -39,12 +39,12 @@ pub struct Localhost<'a> {
 /// What is left of an office that was served and has moved: whether there was one, and the listeners on its port, which stay open.
 /// So no other program gets the port, and clients that connect meanwhile are served by the new office.
 #[derive(Drop)]
-pub struct Handover {
+pub struct Succession {
     pub has_moved: Cell<bool>,
     pub listeners: Cell<Option<Loopback>>,
 }
 
-impl Handover {
+impl Succession {
     /// Returns the listeners on a port at this machine's loopback addresses: those that were left, or new ones. Keeps them open until
     /// they are closed here, if the system has room for other descriptors of them.
     fn listeners_at(&self, rt: &HostRuntime, port: u16) -> io::Result<Loopback> {
@@ -89,7 +89,7 @@ fn listen<'a>(
     let Ok(port) = u16::try_from(port) else {
         return Err(io::Error::from(ErrorKind::InvalidInput));
     };
-    let clients = place.handover.listeners_at(rt, port)?;
+    let clients = place.succession.listeners_at(rt, port)?;
     let poller = Poller::new(rt, rt.alloc(), clients, orders)?;
     Ok(SocketNetwork { poller, clock: rt })
 }
@@ -213,7 +213,7 @@ impl<'a> Localhost<'a> {
 impl<'a> Host for Localhost<'a> {
     type Sockets = SocketNetwork<&'a HostRuntime>;
 
-    type Side = LocalFile<'a>;
+    type OfficeFile = LocalFile<'a>;
 
     ghost known = { λ _ _. unknown };
 
@@ -241,7 +241,7 @@ impl<'a> Host for Localhost<'a> {
             Ok(opened) => self.tell_if_successor(opened.served_file.is_moved.get()),
             Err(_) => {
                 self.clear();
-                self.place.handover.close();
+                self.place.succession.close();
             }
         }
         opened
@@ -252,11 +252,11 @@ impl<'a> Host for Localhost<'a> {
         ensures others { (other : ℕ) → other ≢ port → unknown {L = Socket} ≡ unknown }
     {
         let _ = port;
-        let handover = self.place.handover;
+        let succession = self.place.succession;
         if opened.served_file.is_moved.get() {
-            handover.has_moved.set(true);
+            succession.has_moved.set(true);
         } else {
-            handover.close();
+            succession.close();
         }
         drop(opened);
         self.clear();

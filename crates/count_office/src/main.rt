@@ -3,11 +3,12 @@
 //! The crate `desk` parses the words and performs the order. This crate provides the file that DB names, the files that the
 //! order or a script names, and the two standard outputs.
 //!
-//! `main` opens the outputs, [`run`] reads the words, and [`follow_words`] parses them as an order. `perform_with_retries` in
-//! `order_run.rt` attempts the order, repeatedly while another program has locked the file; `perform_and_follow` does so again for each
-//! new office that takes the place of a served one. `attempt` checks what is at the
-//! path, and `lock_and_perform` locks the file or sends the order to the program that serves it. Under the lock,
-//! `perform_locked` and `open_and_perform` open the database, and [`dispatch_order`] performs the order on it.
+//! `main` opens the outputs, [`run`] reads the words, [`follow_words`] parses them as an order, and [`perform_at_path`] finds the path of
+//! the database in them. `perform_with_retries` in `order_run.rt` attempts the order, repeatedly while another program has locked the
+//! file; `perform_and_follow` does so again for each new office that takes the place of a served one, and `perform_and_remark` tells a
+//! person at a terminal more. `attempt` checks what is at the path, and `lock_and_perform` locks the file or sends the order to the
+//! program that serves it. Under the lock, `perform_locked` and `open_and_perform` open the database, and [`dispatch_order`] performs
+//! the order on it.
 //!
 //! ```text
 //! count-office town.db init
@@ -59,6 +60,9 @@ mod new_file;
 mod served_file;
 // the two outputs
 mod screen;
+// what is printed in addition for a person at a terminal
+mod remark_words;
+mod remarks;
 
 use codes_file::{NewCodes, make_codes_file, print_slips};
 use copies::copy;
@@ -68,11 +72,12 @@ use desk::{
 };
 use file_lock::FileLock;
 use host::Host;
-use localhost::Handover;
+use localhost::Succession;
 use mends::{OldOffice, mend};
 use order_files::{LocalFolder, OrderFiles};
-use order_run::{OrderRun, perform_and_follow};
+use order_run::OrderRun;
 use path_state::PathState;
+use remarks::perform_and_remark;
 use screen::Screen;
 use serving::{Serving, serve};
 use sqlite::{Alter, Connection, ErrorCode, FileStore, Files};
@@ -95,7 +100,7 @@ pub struct LockedDatabase<'a> {
     pub lock: &'a FileLock,
     pub brought: &'a Option<OrderFiles>,
     pub is_successor: bool,
-    pub handover: &'a Handover,
+    pub succession: &'a Succession,
 }
 
 /// Returns the program's words, from DB on.
@@ -261,13 +266,44 @@ fn close<D: Disk + Drop>(conn: Connection<FileStore<D>>) -> Option<Files<D>>
     }
 }
 
-/// Does what the given words, starting with DB, ask for, and returns the status.
+/// Performs an order on the database that the first word names, and returns the status.
+fn perform_at_path<O: Sink, E: Sink>(
+    rt: &HostRuntime,
+    words: &[&str],
+    order: &Order<'_>,
+    out: &mut O,
+    err: &mut E,
+) -> u8
+    requires out { O.failed out.old < 2 ^ 64 - 1 }
+    requires err { E.failed err.old < 2 ^ 64 - 1 }
+{
+    let succession = Succession {
+        has_moved: Cell::new(false),
+        listeners: Cell::new(None),
+    };
+    let path = match words.first() {
+        Some(path) => *path,
+        None => "",
+    };
+    let request = OrderRun {
+        rt,
+        path,
+        words,
+        order,
+        is_successor: false,
+        succession: &succession,
+    };
+    let status = perform_and_remark(request, out, err);
+    drop(succession);
+    status
+}
+
+/// Does what the given words, starting with DB, ask for, and returns the status. Making codes and printing slips need no database.
 fn follow_words<O: Sink, E: Sink>(rt: &HostRuntime, words: &[&str], out: &mut O, err: &mut E) -> u8
     requires out { O.failed out.old < 2 ^ 64 - 1 }
     requires err { E.failed err.old < 2 ^ 64 - 1 }
 {
     match order(rt.alloc(), &*words) {
-        // Making codes needs no database.
         Ok(
             Order::Codes {
                 path,
@@ -282,29 +318,8 @@ fn follow_words<O: Sink, E: Sink>(rt: &HostRuntime, words: &[&str], out: &mut O,
             };
             make_codes_file(rt, asked, out, err)
         }
-        // Nor does printing slips.
         Ok(Order::Slips { path, address }) => print_slips(rt, path, address, out, err),
-        Ok(order) => {
-            let handover = Handover {
-                has_moved: Cell::new(false),
-                listeners: Cell::new(None),
-            };
-            let path = match words.first() {
-                Some(path) => *path,
-                None => "",
-            };
-            let request = OrderRun {
-                rt: &*rt,
-                path,
-                words: &*words,
-                order: &order,
-                is_successor: false,
-                handover: &handover,
-            };
-            let status = perform_and_follow(request, out, err);
-            drop(handover);
-            status
-        }
+        Ok(order) => perform_at_path(rt, words, &order, out, err),
         Err(fault) => tell_words(&fault, out, err),
     }
 }

@@ -4,7 +4,7 @@
 ghost use Rattle.std.specs.Prelude.{◌≡◌, ◌-◌, ◌^◌, ◌<◌, OnErr, Some};
 
 use crate::file_lock::FileLock;
-use crate::localhost::{Handover, Localhost};
+use crate::localhost::{Localhost, Succession};
 use crate::moved_note::moved_to;
 use crate::notices::{
     LockHolder, tell_if_moved, warn_foreign_log, warn_if_open_to_others, warn_waited, warn_waiting,
@@ -41,7 +41,7 @@ pub struct OrderRun<'a> {
     pub words: &'a [&'a str],
     pub order: &'a Order<'a>,
     pub is_successor: bool,
-    pub handover: &'a Handover,
+    pub succession: &'a Succession,
 }
 
 /// Opens the locked database at a path, performs an order on it, and closes it. If the order fails, nothing is left that didn't
@@ -200,7 +200,7 @@ fn perform_locked<O: Sink, E: Sink>(
         lock,
         brought,
         is_successor: request.is_successor,
-        handover: request.handover,
+        succession: request.succession,
     };
     open_and_perform(place, request.order, out, err)
 }
@@ -285,6 +285,26 @@ fn perform_with_retries<O: Sink, E: Sink>(request: OrderRun<'_>, out: &mut O, er
     status
 }
 
+/// Performs an order on the database at a path, and prints nothing but what the order itself prints. Returns its status; `None` if
+/// another program has locked the file for half a second.
+pub fn perform_quietly<O: Sink, E: Sink>(
+    request: OrderRun<'_>,
+    out: &mut O,
+    err: &mut E,
+) -> Option<u8>
+    requires out { O.failed out.old < 2 ^ 64 - 1 }
+    requires err { E.failed err.old < 2 ^ 64 - 1 }
+{
+    let mut brought = None;
+    for _ in 0..PAUSES_UNSEEN {
+        if let Ok(status) = attempt(request, &mut brought, out, err) {
+            return Some(status);
+        }
+        request.rt.sleep(Duration::from_millis(PAUSE));
+    }
+    None
+}
+
 /// Returns the path of the office that took the place of the one at a path, or the failure if no note says so.
 fn successor_of(rt: &HostRuntime, path: &str) -> Result<String, Failure> {
     let found = fs::canonicalize(rt, path).and_then(|database| moved_to(rt, database.as_str()));
@@ -317,11 +337,11 @@ pub fn perform_and_follow<O: Sink, E: Sink>(request: OrderRun<'_>, out: &mut O, 
     requires out { O.failed out.old < 2 ^ 64 - 1 }
     requires err { E.failed err.old < 2 ^ 64 - 1 }
 {
-    let OrderRun { rt, handover, .. } = request;
+    let OrderRun { rt, succession, .. } = request;
     let mut status = perform_with_retries(request, out, err);
     let mut path = None;
     for _ in 0..u64::MAX {
-        if !handover.has_moved.replace(false) {
+        if !succession.has_moved.replace(false) {
             return status;
         }
         let last = match &path {

@@ -1,7 +1,7 @@
 //! What an order for a served office needs from this machine in addition to the office: the file of a copy or of a new office, and
 //! memory for replaying a journal.
 
-ghost use Rattle.std.specs.Prelude.{◌≡◌, ◌-◌, ◌<◌, IfOk, None};
+ghost use Rattle.std.specs.Prelude.{◌≡◌, ◌-◌, ◌<◌, ⊤, IfOk, None};
 ghost use Rattle.std.specs.Path.{path_buf_bytes, path_bytes};
 ghost use Rattle.count_office.specs.CopyPaths.{copy_path, folder_of};
 
@@ -56,6 +56,10 @@ impl LocalFile<'_> {
 
 impl ServedFile for LocalFile<'_> {
     ghost whole = { λ _. None };
+
+    ghost moved = { λ _. ⊤ };
+
+    ghost ended = { λ _ _ _ _. ⊤ };
 
     fn is_whole(&self) -> bool {
         !self.is_moved.get() && self.file_watch.is_whole(self.rt)

@@ -1,12 +1,11 @@
 -- What remains in effect after an order, and what a connection at rest leaves in the database.
 use Rattle.std.proofs.Common.{◌≡◌, ◌≢◌, ◌⊎◌, ◌≤◌, ◌+◌, ◌∙◌, inl, inr, ℕ, Bool, true, false, List, [], ◌∷◌, Option, None, length, take, IsTrue, refl, sym, ap, subst, arith, suc}
-use Rattle.clap.specs.Words.{Text}
 use Rattle.sqlite.specs.Tree.{Trees}
 use Rattle.sqlite.specs.Schema.{Schema}
 use Rattle.sqlite.specs.Effect.{Database}
 use Rattle.sqlite.specs.State.{State, HasCleanDisk}
 use Rattle.sqlite_schema.specs.Names.{same_name}
-use Rattle.register.specs.Offices.{OfficeState, empty_office}
+use Rattle.register.specs.Offices.{OfficeState}
 use Rattle.register.specs.Machine.{after, after_one}
 use Rattle.register.specs.declared.command.Request.{Request}
 use Rattle.tables.specs.Contents.{Contents, IsOffice, RestsAt, Stores}

@@ -16,6 +16,7 @@ pub mod ScriptLemmas
 pub mod ScriptEnds
 pub mod CopyingLemmas
 pub mod JournalLemmas
+mod NoScriptLemmas
 pub mod WordsRefused
 pub mod FaultsRead
 pub mod PaperLemmas

@@ -1,12 +1,14 @@
 -- Making a new office from the journal of another.
-use Rattle.std.proofs.Common.{◌≡◌, ◌≢◌, ◌⊎◌, ◌∙◌, ◌++◌, inl, inr, ℕ, Bool, List, [], ◌∷◌, map, Result, Ok, Err, codes, string_bytes, refl, sym, ap, arith}
+use Rattle.std.proofs.Common.{◌≡◌, ◌≢◌, ◌⊎◌, ◌∙◌, ◌++◌, inl, inr, ℕ, Bool, List, [], ◌∷◌, length, map, Result, Ok, Err, codes, string_bytes, refl, sym, subst, ap, arith}
 use Rattle.clap.specs.Words.{Text}
 use Rattle.sqlite.specs.State.{HasCleanDisk, State}
 use Rattle.register.specs.Machine.{Outcome, accepted, kept, refused}
 use Rattle.register.specs.Offices.{OfficeState}
+use Rattle.register.specs.declared.command.Request.{Request}
 use Rattle.register.specs.declared.refusal.Reason.{Reason}
+use Rattle.tables.specs.declared.fault.Fault.TheVariants.{Memory}
 use Rattle.store.specs.Openings.{IsBlank}
-use Rattle.store.specs.Overviews.{WardView, ward_views}
+use Rattle.store.specs.Overviews.{WardView}
 use Rattle.store.specs.StateTables.{IsAt}
 use Rattle.store.specs.declared.copying.CopyFault.{CopyFault}
 use Rattle.store.specs.declared.copying.CopyFault.TheVariants as copy_fault
@@ -19,14 +21,17 @@ use Rattle.mending.specs.Mending.{IsPoint, MendPoint, sent_of}
 use Rattle.mending.specs.Reports.{end_line}
 use Rattle.mending.specs.declared.changes.Changes.{Changes}
 use Rattle.mending.specs.declared.mended.Mended.{Mended}
-use Rattle.mending.specs.declared.recipients.Sent.{Sent}
 use Rattle.mending.specs.declared.recipients.Sent.TheVariants.{Accepted, Known, Denied}
 use Rattle.desk.specs.Copying.{state_behind}
-use Rattle.desk.specs.Mends.{HoldsMended, IsTried, IsUnmade, IsUnread, differing, mended_text, unsent_text, ward_lines}
+use Rattle.desk.specs.Journals.{IsScriptOf, IsScriptOfNone}
+use Rattle.desk.specs.Mends.{AreUnsendable, HoldsMended, IsTried, IsUnbegun, IsUnmade, differing, mended_text, out_of_memory, script_of, unsent_text, ward_lines}
 use Rattle.desk.specs.Overviews.{ward_line}
 use Rattle.desk.specs.Pages.{Page, failed, failure_of, unmended}
 use Rattle.desk.specs.declared.copying.CopyState.{CopyState}
 use Rattle.desk.specs.declared.copying.CopyState.TheVariants.{Unknown, Untouched, Whole}
+use Rattle.desk.specs.declared.lines.Failure.TheVariants.{Office}
+use Rattle.desk.specs.declared.orders.MendOrder.{MendOrder}
+use Rattle.desk.proofs.NoScriptLemmas.{same_number}
 
 -- ---- sending an order: its outcome is that of the machine
 
@@ -100,11 +105,30 @@ text_told before after p m text point lines is =
 pub unmade : (before : List Text) (changes : Changes) (page : Page) (left : CopyState) (st : State) → IsUnmade changes page → IsTried before changes page left st st
 unmade before changes page left st why = record { told = inr why; stops = λ honest blank trees may. inl may }
 
--- if the orders couldn't be read, the status isn't 0
-pub ends_unread : (page : Page) → (page ≡ unmended unsent_text) ⊎ IsUnread page → page.status ≢ 0
-ends_unread page (inl is) zero = let one : page.status ≡ 1 = ap (λ (p : Page). p.status) is in absurd (omega (arith, one, zero))
-ends_unread page (inr (inl is)) zero = let one : page.status ≡ 1 = ap (λ (p : Page). p.status) is in absurd (omega (arith, one, zero))
-ends_unread page (inr (inr (failure, is))) zero = let three : page.status ≡ 3 = ap (λ (p : Page). p.status) is in absurd (omega (arith, three, zero))
+-- the texts after `--with` aren't orders that can be sent: their script isn't one of requests
+pub unsendable_script : (texts : List Text) (script : Text) → script ≡ script_of texts → IsScriptOfNone script → AreUnsendable texts
+unsendable_script texts script is none requests it same = subst IsScriptOfNone is none requests it
+
+-- or it has another number of requests
+pub unsendable_number : (texts : List Text) (script : Text) (orders : List Request) → script ≡ script_of texts → IsScriptOf script orders → (length orders ≡ length texts → ⊥) → AreUnsendable texts
+unsendable_number texts script orders is these other requests it same =
+    other (same_number (script_of texts) orders requests (subst (λ (t : Text). IsScriptOf t orders) is these) it ∙ same)
+
+-- the page says so, or an allocation for it failed
+pub told_unsendable : (texts : List Text) (page : Page) → AreUnsendable texts → (page ≡ unmended unsent_text) ⊎ (page ≡ out_of_memory)
+    → ((page ≡ unmended unsent_text) × AreUnsendable texts) ⊎ (page ≡ out_of_memory)
+told_unsendable texts page are (inl is) = inl (is, are)
+told_unsendable texts page are (inr memory) = inr memory
+
+pub unbegun : (m : MendOrder) (page : Page) → ((page ≡ unmended unsent_text) × AreUnsendable (map string_bytes m.instead.items)) ⊎ (page ≡ out_of_memory) → IsUnbegun m page
+unbegun m page (inl unsent) = inl unsent
+unbegun m page (inr memory) = inr (inr (Office Memory, memory))
+
+-- if nothing was begun, the status isn't 0
+pub ends_unbegun : (m : MendOrder) (page : Page) → IsUnbegun m page → page.status ≢ 0
+ends_unbegun m page (inl (is, unsendable)) zero = let one : page.status ≡ 1 = ap (λ (p : Page). p.status) is in absurd (omega (arith, one, zero))
+ends_unbegun m page (inr (inl is)) zero = let one : page.status ≡ 1 = ap (λ (p : Page). p.status) is in absurd (omega (arith, one, zero))
+ends_unbegun m page (inr (inr (failure, is))) zero = let three : page.status ≡ 3 = ap (λ (p : Page). p.status) is in absurd (omega (arith, three, zero))
 
 -- what is reported after a copy that failed is true
 pub mended_behind : (why : CopyFault) (new_old new_new : State) → HoldsMended (state_behind why) (failed (failure_of why)) new_old new_new

@@ -7,8 +7,8 @@ use Rattle.register.specs.Machine.{Outcome, accepted, kept, refused, state_after
 use Rattle.register.specs.declared.command.Request.{Request}
 use Rattle.register.specs.declared.refusal.Reason.{Reason}
 use Rattle.tables.specs.declared.fault.Fault.TheVariants.{Memory, Store}
-use Rattle.store.specs.StateTables.{IsAt, LeavesState}
-use Rattle.office.specs.Answers.{IsClosedIn, IsKeptOpen, IsOpenAt, Told, again, done, no, told_of}
+use Rattle.store.specs.StateTables.{IsAt}
+use Rattle.office.specs.Answers.{IsClosedIn, IsKeptOpen, IsOpenAt, again, done, told_of}
 use Rattle.office.specs.Reads.{IsClosedReading}
 use Rattle.desk.specs.Headline.{IsAnswered}
 use Rattle.desk.specs.Pages.{Page, noted, page_for, page_found, page_kept}

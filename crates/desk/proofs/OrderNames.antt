@@ -11,7 +11,7 @@ use Rattle.desk.specs.Words.{is_command_name, is_order_name, is_question_name}
 
 -- the names of orders that ask a question
 abbrev question_names : List Text
-question_names = codes "wards" ∷ codes "batches" ∷ codes "doubtful" ∷ codes "differences" ∷ codes "papers" ∷ codes "receipts" ∷ []
+question_names = codes "wards" ∷ codes "batches" ∷ codes "doubtful" ∷ codes "differences" ∷ codes "papers" ∷ codes "fields" ∷ codes "receipts" ∷ []
 
 -- the names of orders that neither send a command nor ask a question
 abbrev pub other_names : List Text

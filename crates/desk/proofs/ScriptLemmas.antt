@@ -2,7 +2,6 @@
 use Rattle.std.proofs.Common.{◌≡◌, ◌∙◌, ◌<◌, ◌+◌, ℕ, length, get_or, map, take, drop, subst, Bool, true, false, List, [], ◌∷◌, ◌++◌, Result, Ok, Err, inl, inr, refl, sym, ap}
 use Rattle.std.specs.Prelude.{◌==◌, IsUtf8, if◌then◌else◌, is_ok, is_err}
 use Rattle.std.specs.List.{list_all, list_any}
-use Rattle.std.proofs.lemmas.Bool.{false≢true}
 use Rattle.std.proofs.lemmas.List.{map-append, take-append-drop, take_more}
 use Rattle.std.proofs.lemmas.List.Folds.{list_all_at, list_all-append, list_all-map}
 use Rattle.std.proofs.lemmas.Str.{IsUtf8-from_is_utf8, is_utf8-from_IsUtf8}

@@ -46,15 +46,22 @@ state_behind (uncopied.Office fault) = Untouched
 state_behind uncopied.Taken = Untouched
 state_behind (uncopied.Copy fault) = Unknown
 
+-- whatever a stop leaves, the new database is unchanged or contains a whole office
+abbrev pub LeavesNoneOrOffice : State → State → Type 0
+LeavesNoneOrOffice copy_old copy_new =
+    HasCleanDisk copy_new → IsBlank copy_old → (trees : Trees) → copy_new.may_leave trees → copy_old.may_leave trees ⊎ ((s : OfficeState) × StoresState s trees)
+
+-- a connection to a database that is reported as untouched is as it was
+abbrev pub IsAsReported : {C : Type 0} → CopyState → C → C → Type 0
+IsAsReported left conn_old conn_new = left ≡ Untouched → conn_new ≡ conn_old
+
 -- What is reported about the other database is true for any office. A copy that is confirmed is complete, and the reply describes it. With any other page, either
 -- nothing was written, or after a stop the database contains what it could have contained before or a complete office.
 abbrev pub HoldsCopy : CopyState → Page → State → State → Type 0
 HoldsCopy Whole page copy_old copy_new =
     (h : OfficeCounts) × (page ≡ replied (copied_text h)) × (HasCleanDisk copy_new → IsBlank copy_old → (s : OfficeState) × (h ≡ holdings_of s) × IsAt s copy_new)
 HoldsCopy Untouched page copy_old copy_new = (failure : Failure) × (page ≡ failed failure) × OnlyReads copy_old copy_new
-HoldsCopy Unknown page copy_old copy_new =
-    (failure : Failure) × (page ≡ failed failure)
-    × (HasCleanDisk copy_new → IsBlank copy_old → (trees : Trees) → copy_new.may_leave trees → copy_old.may_leave trees ⊎ ((s : OfficeState) × StoresState s trees))
+HoldsCopy Unknown page copy_old copy_new = (failure : Failure) × (page ≡ failed failure) × LeavesNoneOrOffice copy_old copy_new
 
 -- An office in the given state is copied into an empty database, which then has exactly that state, and the page says how much the copy contains. Or the page
 -- reports a failure, and after a stop the copy contains either what it could have contained before or everything. The page shows one or the other even if the

@@ -1,5 +1,5 @@
 -- The forms of a ward, given what the office knows about it, and the slips of clerks.
-use Rattle.std.specs.Prelude.{ℕ, ◌==◌, ◌-◌, List, [], ◌∷◌, codes, find, length, map, Option, Some, None}
+use Rattle.std.specs.Prelude.{ℕ, ◌==◌, ◌-◌, List, find, length, map, Option, Some, None}
 use Rattle.clap.specs.Words.{Text}
 use Rattle.codes.specs.Files.{CodeEntry}
 use Rattle.count.specs.declared.stages.Due.{Due}
@@ -17,7 +17,7 @@ use Rattle.forms.specs.Verdicts.{DoubtfulEntry, verdicts_page}
 use Rattle.forms.specs.declared.lots.LotPurpose.{LotPurpose}
 use Rattle.forms.specs.declared.lots.LotPurpose.TheVariants as purpose
 use Rattle.desk.specs.CandidateNames.{name_of}
-use Rattle.desk.specs.Pages.{Page, line, printed, unformed}
+use Rattle.desk.specs.Pages.{Page, printed, unformed}
 use Rattle.desk.specs.declared.lines.NoForm.TheVariants.{NoLot, Undeclared}
 
 -- ---- what forms show

@@ -29,6 +29,10 @@ pub record IsScriptOf (text : Text) (requests : List Request) : Type 0 where
   pub script : AreTurns (script_lines text) turns
   pub sends : AreSent turns requests
 
+-- the text isn't a script of requests: whichever requests are given, it isn't a script of those
+abbrev pub IsScriptOfNone : Text → Type 0
+IsScriptOfNone text = (requests : List Request) → IsScriptOf text requests → ⊥
+
 -- A journal of a state is a script of requests that lead to it: when they are sent to an empty office, each of them is accepted, and they result in exactly this
 -- state.
 abbrev pub IsJournalOf : OfficeState → Text → Type 0

@@ -3,14 +3,18 @@ use Rattle.std.specs.Prelude.{◌≡◌, ◌≢◌, ◌⊎◌, ◌++◌, List, [
 use Rattle.std.specs.List.{flat_map, list_any}
 use Rattle.std.specs.Str.{bytes_eq}
 use Rattle.clap.specs.Words.{Text}
+use Rattle.sqlite.specs.Held.{Held}
 use Rattle.sqlite.specs.State.{HasCleanDisk, State}
 use Rattle.register.specs.Offices.{OfficeState}
 use Rattle.register.specs.declared.command.Request.{Request}
+use Rattle.tables.specs.declared.fault.Fault.TheVariants.{Memory}
 use Rattle.store.specs.Copies.{LeavesNoneOrAll}
 use Rattle.store.specs.Openings.{IsBlank}
 use Rattle.store.specs.Overviews.{ward_views}
 use Rattle.store.specs.StateTables.{IsAt}
+use Rattle.office.specs.Answers.{IsReadAt, WhenOpenAt}
 use Rattle.office.specs.Runs.{LeadTo}
+use Rattle.office.specs.Values.{OfficeValue}
 use Rattle.mending.specs.Changes.{CanBeMade, IsFlawOf, names_of}
 use Rattle.mending.specs.Accounts.{IsMended}
 use Rattle.mending.specs.Mending.{MendPoint, mended}
@@ -23,7 +27,7 @@ use Rattle.desk.specs.Pages.{Page, below, failed, line, printed, unjournalled, u
 use Rattle.desk.specs.declared.copying.CopyState.{CopyState}
 use Rattle.desk.specs.declared.copying.CopyState.TheVariants.{Unknown, Untouched, Whole}
 use Rattle.desk.specs.declared.lines.Failure.{Failure}
-use Rattle.desk.specs.declared.lines.Failure.TheVariants.{CopyFailed}
+use Rattle.desk.specs.declared.lines.Failure.TheVariants.{CopyFailed, Office}
 use Rattle.desk.specs.declared.orders.MendOrder.{MendOrder}
 
 -- ---- the request
@@ -39,6 +43,10 @@ pub record AreAsked (s : OfficeState) (m : MendOrder) (changes : Changes) : Type
   pub without : names_of changes ≡ map string_bytes m.without.items
   pub instead : IsScriptOf (script_of (map string_bytes m.instead.items)) changes.instead.now
   pub each : length changes.instead.now ≡ length m.instead.items
+
+-- The texts after `--with` aren't orders that can be sent: whichever requests are given, one for each text, the script of the texts isn't a script of those.
+abbrev pub AreUnsendable : List Text → Type 0
+AreUnsendable texts = (requests : List Request) → IsScriptOf (script_of texts) requests → length requests ≢ length texts
 
 -- ---- what is printed
 
@@ -64,6 +72,12 @@ mended_text before p =
 -- what is printed if the texts after `--with` aren't orders that can be sent
 abbrev pub unsent_text : Text
 unsent_text = codes "not mended: each --with is an order that is sent, as a line of a script, and that names no file\n"
+
+-- ---- the existing office
+
+-- an office that was open at a state is only read: it is still open at that state, or it is closed, and a stop leaves that state
+abbrev pub StaysReadAt : {S : Type 0} → (Held S → State) → OfficeValue S → OfficeValue S → Type 0
+StaysReadAt state_of old new = WhenOpenAt state_of old new (λ s. IsReadAt s new.closed (state_of new.held))
 
 -- ---- the outcome
 
@@ -95,18 +109,26 @@ HoldsMended Unknown page new_old new_new = (failure : Failure) × (page ≡ fail
 abbrev pub IsUnread : Page → Type 0
 IsUnread page = (page ≡ unjournalled) ⊎ ((failure : Failure) × (page ≡ failed failure))
 
+-- an allocation failed
+abbrev pub out_of_memory : Page
+out_of_memory = failed (Office Memory)
+
+-- Nothing was begun. The texts after `--with` aren't orders that can be sent, and the page says so; or the orders of the office couldn't be read.
+abbrev pub IsUnbegun : MendOrder → Page → Type 0
+IsUnbegun m page = ((page ≡ unmended unsent_text) × AreUnsendable (map string_bytes m.instead.items)) ⊎ IsUnread page
+
 -- The outcome of an order to mend the office at a state. Either an attempt was made with the requested changes. Or nothing was written, because the texts after `--with`
 -- aren't orders that can be sent, because there is no journal, or because of a failure.
 abbrev pub IsMendedOpen : OfficeState → MendOrder → Page → CopyState → State → State → Type 0
 IsMendedOpen s m page left new_old new_new =
-    ((changes : Changes) × AreAsked s m changes × IsTried (ward_lines s) changes page left new_old new_new) ⊎ (((page ≡ unmended unsent_text) ⊎ IsUnread page) × (left ≡ Untouched))
+    ((changes : Changes) × AreAsked s m changes × IsTried (ward_lines s) changes page left new_old new_new) ⊎ (IsUnbegun m page × (left ≡ Untouched))
 
 -- the page of an order to mend the office at a state
 abbrev pub IsMendTold : OfficeState → MendOrder → Page → Type 0
 IsMendTold s m page =
     ((changes : Changes) × AreAsked s m changes
     × ((CanBeMade changes × IsMended changes (mended changes) × (page ≡ printed (mended_text (ward_lines s) (mended changes)))) ⊎ IsUnmade changes page))
-    ⊎ ((page ≡ unmended unsent_text) ⊎ IsUnread page)
+    ⊎ IsUnbegun m page
 
 -- the same page; if it says that the new office was made, it may be followed by the failure to merge the log of that office into its file
 abbrev pub IsMendPage : OfficeState → MendOrder → Page → Type 0

@@ -350,6 +350,7 @@ orders =
     ∷ takes (codes "doubtful") (number (codes "WARD") ∷ []) (λ ward. ask (question.Doubtful ward))
     ∷ takes (codes "differences") (number (codes "BATCH") ∷ []) (λ batch. ask (question.Differences batch))
     ∷ takes (codes "papers") (number (codes "BATCH") ∷ []) (λ batch. ask (question.Papers batch))
+    ∷ takes (codes "fields") (number (codes "BATCH") ∷ number_or_none (codes "CLERK") ∷ []) (λ batch clerk. ask (question.Fields batch clerk))
     ∷ takes (codes "receipts") (number_or_none (codes "ACTOR") ∷ []) (λ actor. ask (question.Receipts actor))
     ∷ takes (codes "journal") [] journal
     ∷ takes (codes "replay") (text (codes "FILE") ∷ flag (codes "keep-going") ∷ []) replay

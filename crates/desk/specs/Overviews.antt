@@ -15,6 +15,7 @@ use Rattle.store.specs.declared.overviews.batches.BatchStanding.TheVariants.{Tak
 use Rattle.office.specs.Reads.{next_answer}
 use Rattle.office.specs.Overviews.{batches_answer, differences_answer, doubtful_answer, papers_answer, receipts_answer, wards_answer}
 use Rattle.desk.specs.CandidateNames.{name_in, names_of}
+use Rattle.desk.specs.Fields.{page_of_fields}
 use Rattle.desk.specs.Forms.{adjudication_form, covers_form, declaration_form, lots_form}
 use Rattle.desk.specs.Pages.{Page, line, page_found, printed, replied}
 use Rattle.desk.specs.WardStatus.{phase_word}
@@ -167,5 +168,6 @@ page_asked s (question.Batches ward) = page_found (λ batches. printed (lines_of
 page_asked s (question.Doubtful ward) = page_found (λ papers. printed (doubtful_lines papers)) (doubtful_answer s ward)
 page_asked s (question.Differences batch) = page_found (λ differences. replied (differences_line differences)) (differences_answer s batch)
 page_asked s (question.Papers batch) = page_found (λ papers. printed (paper_lines papers)) (papers_answer s batch)
+page_asked s (question.Fields batch clerk) = page_of_fields s batch clerk
 page_asked s (question.Form form ward) = page_formed s form ward
 page_asked s (question.Receipts actor) = page_found (λ receipts. printed (lines_of receipt_line receipts)) (receipts_answer s actor)

@@ -210,7 +210,7 @@ is_command_name name = list_any (λ e. e.is_command && bytes_eq name e.typed.nam
 -- whether the name is that of an order that asks a question about the office
 abbrev pub is_question_name : Text → Bool
 is_question_name name =
-    list_any (bytes_eq name) (codes "wards" ∷ codes "batches" ∷ codes "doubtful" ∷ codes "differences" ∷ codes "papers" ∷ codes "receipts" ∷ [])
+    list_any (bytes_eq name) (codes "wards" ∷ codes "batches" ∷ codes "doubtful" ∷ codes "differences" ∷ codes "papers" ∷ codes "fields" ∷ codes "receipts" ∷ [])
 
 -- whether the matches name an order
 abbrev pub names_order : Option (Text × List Row) → Bool

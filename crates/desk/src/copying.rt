@@ -8,7 +8,7 @@ ghost use Rattle.register.specs.Offices.{OfficeState};
 ghost use Rattle.store.specs.StateTables.{IsAt, KeepsConnection};
 ghost use Rattle.store.specs.Openings.{IsBlank};
 ghost use Rattle.office.specs.Answers.{IsReadAt, WhenOpenAt};
-ghost use Rattle.desk.specs.Copying.{HoldsCopy, IsCopied, IsCopiedOpen, copied_text, state_behind};
+ghost use Rattle.desk.specs.Copying.{HoldsCopy, IsAsReported, IsCopied, IsCopiedOpen, copied_text, state_behind};
 ghost use Rattle.desk.specs.Pages.{Tells, closed_page, outputs_of, page_of};
 
 use crate::lines::{LineOutcome, tell};
@@ -60,7 +60,7 @@ fn copied<S: Alter, T: Alter>(
 ) -> (LineOutcome, CopyState)
     ensures holds { HoldsCopy result.1 (page_of result.0) (state T.Store copy.old) (state T.Store copy.new) }
     ensures copied { HasCleanDisk (state S.Store conn.new) → IsCopied (page_of result.0) result.1 (state S.Store conn.old) (state S.Store conn.new) (state T.Store copy.old) (state T.Store copy.new) }
-    ensures untouched { result.1 ≡ CopyState.Untouched → copy.new ≡ copy.old }
+    ensures untouched { IsAsReported result.1 copy.old copy.new }
     ensures reads { OnlyReads (state S.Store conn.old) (state S.Store conn.new) }
     ensures keeps_connection { KeepsConnection (state T.Store copy.old) (state T.Store copy.new) }
     ensures clean { HasCleanDisk (state T.Store copy.new) → HasCleanDisk (state T.Store copy.old) }
@@ -84,7 +84,7 @@ fn copied_open<S: Alter, T: Alter>(
     ensures copied { WhenOpenAt (state S.Store) office.old office.new
         (λ s. IsCopiedOpen s (page_of result.0) result.1 (state S.Store office.old.held) (state S.Store office.new.held) (state T.Store copy.old) (state T.Store copy.new)
         × IsReadAt s office.new.closed (state S.Store office.new.held)) }
-    ensures untouched { result.1 ≡ CopyState.Untouched → copy.new ≡ copy.old }
+    ensures untouched { IsAsReported result.1 copy.old copy.new }
     ensures reads { OnlyReads (state S.Store office.old.held) (state S.Store office.new.held) }
     ensures closed { office.old.closed ≡ true → (page_of result.0 ≡ closed_page) × (office.new ≡ office.old) }
     ensures keeps_connection { KeepsConnection (state T.Store copy.old) (state T.Store copy.new) }
@@ -121,7 +121,7 @@ pub fn copy_open<S: Alter, T: Alter, O: Sink, E: Sink>(
     ensures stays { WhenOpenAt (state S.Store) office.old office.new (λ s. IsReadAt s office.new.closed (state S.Store office.new.held)) }
     ensures made { result.0 ≡ 0 → (result.1 ≡ CopyState.Whole)
         × (HasCleanDisk (state T.Store copy.new) → IsBlank (state T.Store copy.old) → (s : OfficeState) × IsAt s (state T.Store copy.new)) }
-    ensures untouched { result.1 ≡ CopyState.Untouched → copy.new ≡ copy.old }
+    ensures untouched { IsAsReported result.1 copy.old copy.new }
     ensures reads { OnlyReads (state S.Store office.old.held) (state S.Store office.new.held) }
     ensures closed { office.old.closed ≡ true → office.new ≡ office.old }
     ensures keeps_connection { KeepsConnection (state T.Store copy.old) (state T.Store copy.new) }
@@ -156,7 +156,7 @@ pub fn copy_office<S: Alter, T: Alter, O: Sink, E: Sink>(
         × (HasCleanDisk (state S.Store conn.new) → IsCopied page result.1 (state S.Store conn.old) (state S.Store conn.new) (state T.Store copy.old) (state T.Store copy.new))) }
     ensures made { result.0 ≡ 0 → (result.1 ≡ CopyState.Whole)
         × (HasCleanDisk (state T.Store copy.new) → IsBlank (state T.Store copy.old) → (s : OfficeState) × IsAt s (state T.Store copy.new)) }
-    ensures untouched { result.1 ≡ CopyState.Untouched → copy.new ≡ copy.old }
+    ensures untouched { IsAsReported result.1 copy.old copy.new }
     ensures reads { OnlyReads (state S.Store conn.old) (state S.Store conn.new) }
     ensures keeps_connection { KeepsConnection (state T.Store copy.old) (state T.Store copy.new) }
     ensures clean { HasCleanDisk (state T.Store copy.new) → HasCleanDisk (state T.Store copy.old) }

@@ -1,15 +1,16 @@
 //! Checking and printing the journal of the office: its accepted orders as a script. Before the journal is printed, it is parsed
 //! and replayed in an empty office, which must end up in the same state.
 
-ghost use Rattle.std.specs.Prelude.{◌≡◌, ◌-◌, ◌^◌, ◌<◌, true, string_bytes, IfOk, IfSome};
+ghost use Rattle.std.specs.Prelude.{◌≡◌, ◌-◌, ◌^◌, ◌<◌, List, true, string_bytes, IfNone, IfOk, IfSome};
 ghost use Rattle.sqlite.specs.State.{HasCleanDisk};
 ghost use Rattle.sqlite.specs.Held.{state};
 ghost use Rattle.tables.specs.Reading.{OnlyReads};
 ghost use Rattle.register.specs.Offices.{MapsAreSorted};
+ghost use Rattle.register.specs.declared.command.Request.{Request};
 ghost use Rattle.rowcheck.specs.States.{state_of};
 ghost use Rattle.store.specs.Openings.{IsBlank};
 ghost use Rattle.office.specs.Answers.{IsReadAt, WhenOpenAt};
-ghost use Rattle.desk.specs.Journals.{AreSent, IsJournalTold, IsJournalled, IsScriptOf};
+ghost use Rattle.desk.specs.Journals.{AreSent, IsJournalTold, IsJournalled, IsScriptOf, IsScriptOfNone};
 ghost use Rattle.desk.specs.Pages.{Tells, closed_page, outputs_of, page_of};
 
 use crate::journal::journal_text;
@@ -37,7 +38,8 @@ fn requests_of(
     alloc: Global,
     turns: Vec<ScriptStep<'_>>,
 ) -> Result<Option<Vec<Request>>, AllocError>
-    ensures { IfOk result (λ found. IfSome found (λ requests. AreSent turns.entry.items requests.items)) }
+    ensures some { IfOk result (λ found. IfSome found (λ requests. AreSent turns.entry.items requests.items)) }
+    ensures none { IfOk result (λ found. IfNone found ((requests : List Request) → AreSent turns.entry.items requests → ⊥)) }
 {
     let mut requests = Vec::new(alloc);
     for turn in turns {
@@ -52,7 +54,8 @@ fn requests_of(
 
 /// Returns a script's requests; None if the text isn't a script of requests only.
 pub(crate) fn requests_in(alloc: Global, text: &str) -> Result<Option<Vec<Request>>, AllocError>
-    ensures { IfOk result (λ found. IfSome found (λ requests. IsScriptOf text.now requests.items)) }
+    ensures some { IfOk result (λ found. IfSome found (λ requests. IsScriptOf text.now requests.items)) }
+    ensures none { IfOk result (λ found. IfNone found (IsScriptOfNone text.now)) }
 {
     let lines = lines_in(alloc, text.as_bytes())?;
     let said = typed_lines(alloc, &lines)?;
@@ -66,7 +69,8 @@ pub(crate) fn requests_in(alloc: Global, text: &str) -> Result<Option<Vec<Reques
 /// Returns the text of the journal for an office with the given rows, and the requests it parses to.
 pub(crate) fn draft_of(alloc: Global, rows: &Rows) -> Result<Draft, AllocError>
     requires { MapsAreSorted (state_of rows.now) }
-    ensures { IfOk result (λ draft. IfSome draft.requests (λ requests. IsScriptOf (string_bytes draft.text) requests.items)) }
+    ensures some { IfOk result (λ draft. IfSome draft.requests (λ requests. IsScriptOf (string_bytes draft.text) requests.items)) }
+    ensures none { IfOk result (λ draft. IfNone draft.requests (IsScriptOfNone (string_bytes draft.text))) }
 {
     let text = journal_text(alloc, rows)?;
     let requests = requests_in(alloc, text.as_str())?;

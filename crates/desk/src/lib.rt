@@ -43,8 +43,10 @@ mod scripts;
 mod requests;
 // and from requests to lines and a status.
 mod candidate_names;
+mod codes_lines;
 pub mod copying;
 mod counting;
+mod fields;
 mod import;
 mod journal;
 pub mod journal_check;

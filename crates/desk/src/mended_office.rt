@@ -8,20 +8,20 @@ ghost use Rattle.std.specs.List.{list_any};
 ghost use Rattle.std.specs.Str.{bytes_eq};
 ghost use Rattle.sqlite.specs.Held.{state};
 ghost use Rattle.sqlite.specs.State.{HasCleanDisk};
-ghost use Rattle.sqlite.specs.Tree.{Trees};
 ghost use Rattle.register.specs.Offices.{MapsAreSorted, OfficeState, empty_office};
 ghost use Rattle.rowcheck.specs.States.{state_of};
 ghost use Rattle.tables.specs.Reading.{OnlyReads};
 ghost use Rattle.store.specs.Openings.{IsBlank};
-ghost use Rattle.store.specs.StateTables.{IsAt, StoresState};
-ghost use Rattle.office.specs.Answers.{IsOpenAt, IsReadAt, WhenOpenAt};
+ghost use Rattle.store.specs.StateTables.{IsAt};
+ghost use Rattle.office.specs.Answers.{IsOpenAt, WhenOpenAt};
 ghost use Rattle.office.specs.Runs.{LeadTo};
 ghost use Rattle.mending.specs.Changes.{CanBeMade};
 ghost use Rattle.mending.specs.Accounts.{IsMended};
 ghost use Rattle.mending.specs.Mending.{mended};
 ghost use Rattle.mending.specs.Reports.{end_line};
+ghost use Rattle.desk.specs.Copying.{IsAsReported, LeavesNoneOrOffice};
 ghost use Rattle.desk.specs.Journals.{IsScriptOf};
-ghost use Rattle.desk.specs.Mends.{HoldsMended, IsMendedOpen, IsTried, IsUnread, differing, mended_text, missing_from, script_of, unsent_text, ward_lines};
+ghost use Rattle.desk.specs.Mends.{AreUnsendable, HoldsMended, IsMendedOpen, IsTried, IsUnread, StaysReadAt, differing, mended_text, missing_from, out_of_memory, script_of, unsent_text, ward_lines};
 ghost use Rattle.desk.specs.Pages.{Tells, line, outputs_of, page_of, unmended};
 
 use crate::copying::{CopyState, state_behind};
@@ -79,7 +79,7 @@ fn script_of(alloc: Global, lines: &[String]) -> Result<String, AllocError>
 
 /// Returns the outcome for texts after `--with` that aren't orders that can be sent.
 fn unsent(alloc: Global) -> LineOutcome
-    ensures { (page_of result ≡ unmended unsent_text) ⊎ IsUnread (page_of result) }
+    ensures { (page_of result ≡ unmended unsent_text) ⊎ (page_of result ≡ out_of_memory) }
 {
     match String::from_str(alloc, UNSENT) {
         Ok(text) => LineOutcome::Unmended(text),
@@ -87,12 +87,13 @@ fn unsent(alloc: Global) -> LineOutcome
     }
 }
 
-/// Parses these lines into orders, one per line, or returns the outcome if they aren't orders that can be sent or if an allocation
-/// fails. A blank line or a comment isn't an order either.
+/// Parses these lines into orders, one per line. Returns the outcome to print if they aren't orders that can be sent, or if an
+/// allocation fails. A blank line or a comment isn't an order either.
 fn orders_in(alloc: Global, lines: &[String]) -> Result<Vec<Request>, LineOutcome>
     ensures ok { IfOk result (λ orders. IsScriptOf (script_of (map string_bytes lines.now)) orders.items) }
     ensures each { IfOk result (λ orders. length orders.items ≡ length lines.now) }
-    ensures err { IfErr result (λ outcome. (page_of outcome ≡ unmended unsent_text) ⊎ IsUnread (page_of outcome)) }
+    ensures err { IfErr result (λ outcome. ((page_of outcome ≡ unmended unsent_text) × AreUnsendable (map string_bytes lines.now))
+        ⊎ (page_of outcome ≡ out_of_memory)) }
 {
     let Ok(script) = script_of(alloc, lines) else {
         return Err(LineOutcome::Failed(Fault::Memory));
@@ -142,7 +143,7 @@ fn orders_of<T: Alter>(
 fn wards_of<S: Alter>(alloc: Global, office: &mut Office<S>) -> Result<Vec<String>, Fault>
     ensures read { WhenOpenAt (state S.Store) office.old office.new
         (λ s. IfOk result (λ lines. (map string_bytes lines.items ≡ ward_lines s) × IsOpenAt s office.new.closed (state S.Store office.new.held))) }
-    ensures stays { WhenOpenAt (state S.Store) office.old office.new (λ s. IsReadAt s office.new.closed (state S.Store office.new.held)) }
+    ensures stays { StaysReadAt (state S.Store) office.old office.new }
     ensures reads { OnlyReads (state S.Store office.old.held) (state S.Store office.new.held) }
 {
     match office.wards() {
@@ -164,7 +165,7 @@ fn orders_and_wards<S: Alter, T: Alter>(
 ) -> (Result<Journalled, LineOutcome>, Connection<T>)
     ensures leads { WhenOpenAt (state S.Store) office.old office.new (λ s. HasCleanDisk (state T.Store result.1) → IsBlank (state T.Store blank)
         → IfOk result.0 (λ found. LeadTo found.orders.items s × (map string_bytes found.wards.items ≡ ward_lines s))) }
-    ensures stays { WhenOpenAt (state S.Store) office.old office.new (λ s. IsReadAt s office.new.closed (state S.Store office.new.held)) }
+    ensures stays { StaysReadAt (state S.Store) office.old office.new }
     ensures reads { OnlyReads (state S.Store office.old.held) (state S.Store office.new.held) }
     ensures told { IfErr result.0 (λ outcome. IsUnread (page_of outcome)) }
 {
@@ -316,10 +317,9 @@ fn copied<T: Alter, N: Alter>(
     requires { CanBeMade changes }
     ensures made { HasCleanDisk (state T.Store made.new.office.held) → made.old.office.closed ≡ false → IsAt empty_office (state T.Store made.old.office.held)
         → IsTried (map string_bytes before.now) changes.entry (page_of result.0) result.1 (state N.Store new.old) (state N.Store new.new) }
-    ensures whole { HasCleanDisk (state N.Store new.new) → IsBlank (state N.Store new.old)
-        → (trees : Trees) → (state N.Store new.new).may_leave trees → (state N.Store new.old).may_leave trees ⊎ ((x : OfficeState) × StoresState x trees) }
+    ensures whole { LeavesNoneOrOffice (state N.Store new.old) (state N.Store new.new) }
     ensures holds { HoldsMended result.1 (page_of result.0) (state N.Store new.old) (state N.Store new.new) }
-    ensures untouched { result.1 ≡ CopyState.Untouched → new.new ≡ new.old }
+    ensures untouched { IsAsReported result.1 new.old new.new }
     ensures clean { HasCleanDisk (state T.Store made.new.office.held) → HasCleanDisk (state T.Store made.old.office.held) }
 {
     let text = match report(alloc, made, changes, before) {
@@ -344,10 +344,9 @@ fn made<T: Alter, N: Alter>(
     requires { CanBeMade changes }
     ensures made { HasCleanDisk (state T.Store result.2) → IsBlank (state T.Store blank)
         → IsTried (map string_bytes before.now) changes.entry (page_of result.0) result.1 (state N.Store new.old) (state N.Store new.new) }
-    ensures whole { HasCleanDisk (state N.Store new.new) → IsBlank (state N.Store new.old)
-        → (trees : Trees) → (state N.Store new.new).may_leave trees → (state N.Store new.old).may_leave trees ⊎ ((x : OfficeState) × StoresState x trees) }
+    ensures whole { LeavesNoneOrOffice (state N.Store new.old) (state N.Store new.new) }
     ensures holds { HoldsMended result.1 (page_of result.0) (state N.Store new.old) (state N.Store new.new) }
-    ensures untouched { result.1 ≡ CopyState.Untouched → new.new ≡ new.old }
+    ensures untouched { IsAsReported result.1 new.old new.new }
 {
     match Office::create(alloc, blank) {
         Ok(office) => {
@@ -370,10 +369,9 @@ fn checked<T: Alter, N: Alter>(
 ) -> (LineOutcome, CopyState, Connection<T>)
     ensures made { HasCleanDisk (state T.Store result.2) → IsBlank (state T.Store blank)
         → IsTried (map string_bytes before.now) changes.entry (page_of result.0) result.1 (state N.Store new.old) (state N.Store new.new) }
-    ensures whole { HasCleanDisk (state N.Store new.new) → IsBlank (state N.Store new.old)
-        → (trees : Trees) → (state N.Store new.new).may_leave trees → (state N.Store new.old).may_leave trees ⊎ ((x : OfficeState) × StoresState x trees) }
+    ensures whole { LeavesNoneOrOffice (state N.Store new.old) (state N.Store new.new) }
     ensures holds { HoldsMended result.1 (page_of result.0) (state N.Store new.old) (state N.Store new.new) }
-    ensures untouched { result.1 ≡ CopyState.Untouched → new.new ≡ new.old }
+    ensures untouched { IsAsReported result.1 new.old new.new }
 {
     match flaw_in(alloc, changes) {
         Ok(None) => made(alloc, blank, changes, before, new),
@@ -405,12 +403,11 @@ fn mended_open<S: Alter, T: Alter, N: Alter>(
     ensures made { WhenOpenAt (state S.Store) office.old office.new (λ s. HasCleanDisk (state T.Store result.2.journal) → HasCleanDisk (state T.Store result.2.mended)
         → IsBlank (state T.Store trial.journal) → IsBlank (state T.Store trial.mended)
         → IsMendedOpen s asked.now (page_of result.0) result.1 (state N.Store new.old) (state N.Store new.new)) }
-    ensures stays { WhenOpenAt (state S.Store) office.old office.new (λ s. IsReadAt s office.new.closed (state S.Store office.new.held)) }
+    ensures stays { StaysReadAt (state S.Store) office.old office.new }
     ensures reads { OnlyReads (state S.Store office.old.held) (state S.Store office.new.held) }
-    ensures whole { HasCleanDisk (state N.Store new.new) → IsBlank (state N.Store new.old)
-        → (trees : Trees) → (state N.Store new.new).may_leave trees → (state N.Store new.old).may_leave trees ⊎ ((x : OfficeState) × StoresState x trees) }
+    ensures whole { LeavesNoneOrOffice (state N.Store new.old) (state N.Store new.new) }
     ensures holds { HoldsMended result.1 (page_of result.0) (state N.Store new.old) (state N.Store new.new) }
-    ensures untouched { result.1 ≡ CopyState.Untouched → new.new ≡ new.old }
+    ensures untouched { IsAsReported result.1 new.old new.new }
 {
     let instead = match orders_in(alloc, &asked.instead) {
         Ok(instead) => instead,
@@ -468,11 +465,10 @@ pub fn mend_open<S: Alter, T: Alter, N: Alter, O: Sink, E: Sink>(
         → IsMendedOpen s asked.now page result.1 (state N.Store new.old) (state N.Store new.new))) }
     ensures complete { result.0 ≡ 0 → (result.1 ≡ CopyState.Whole)
         × (HasCleanDisk (state N.Store new.new) → IsBlank (state N.Store new.old) → (s : OfficeState) × IsAt s (state N.Store new.new)) }
-    ensures stays { WhenOpenAt (state S.Store) office.old office.new (λ s. IsReadAt s office.new.closed (state S.Store office.new.held)) }
+    ensures stays { StaysReadAt (state S.Store) office.old office.new }
     ensures reads { OnlyReads (state S.Store office.old.held) (state S.Store office.new.held) }
-    ensures whole { HasCleanDisk (state N.Store new.new) → IsBlank (state N.Store new.old)
-        → (trees : Trees) → (state N.Store new.new).may_leave trees → (state N.Store new.old).may_leave trees ⊎ ((x : OfficeState) × StoresState x trees) }
-    ensures untouched { result.1 ≡ CopyState.Untouched → new.new ≡ new.old }
+    ensures whole { LeavesNoneOrOffice (state N.Store new.old) (state N.Store new.new) }
+    ensures untouched { IsAsReported result.1 new.old new.new }
 {
     let (outcome, state, trial) = mended_open(alloc, office, asked, trial, new);
     (tell(None, &outcome, out, err), state, trial)

@@ -99,6 +99,9 @@ pub(crate) const CLERK: Word = word!(Number "CLERK", "The clerk who keys it, 1 t
 pub(crate) const ACTOR: Word =
     word!(NumberOrNone "ACTOR", "Whose receipts, a clerk's number, 1 to 999, or 0 for the office;\nwithout it, those of all");
 
+pub(crate) const ITS_CLERK: Word =
+    word!(NumberOrNone "CLERK", "A clerk of the batch, 1 to 999: prints the candidates' names as on the clerk's page;\nwithout it, their numbers alone");
+
 pub(crate) const ROUND: Word =
     word!(Number "ROUND", "The round that the batch is in, 1 to 99; it begins with 1");
 

@@ -17,9 +17,9 @@ ghost use Rattle.desk.specs.Words.{flag_at, public_at, texts_at};
 
 use crate::order_entry::{
     ACTOR, ADDRESS, BATCH, CANDIDATE, CLERK, CLERKS, CODES, CODES_FILE, CONNECTIONS, DIGEST, Entry,
-    FILE, FIRST_CLERK, FORM, Heading, ID, KEEP_GOING, MARKS, NAME, NEW, NEW_OFFICE, ORIGIN, PAPER,
-    PAPERS, PORT, PUBLIC, ROUND, SCRIPT, SEATS, SECOND_CLERK, SIZE, SOURCE, STAGE, TITLE, VERDICT,
-    WARD, WITH, WITH_OFFICE, WITHOUT, Word,
+    FILE, FIRST_CLERK, FORM, Heading, ID, ITS_CLERK, KEEP_GOING, MARKS, NAME, NEW, NEW_OFFICE,
+    ORIGIN, PAPER, PAPERS, PORT, PUBLIC, ROUND, SCRIPT, SEATS, SECOND_CLERK, SIZE, SOURCE, STAGE,
+    TITLE, VERDICT, WARD, WITH, WITH_OFFICE, WITHOUT, Word,
 };
 use crate::orders::{
     Errand, ExpectedSeal, Form, Job, KeyingFile, MendOrder, Order, Question, Task,
@@ -73,7 +73,7 @@ const ORDERS_TO_SEAL: [Entry; 13] = [
 /// The other orders: those from the seal on, in the same order; then `migrate`; then those for the office alone; and then those for
 /// everyone.
 #[rattlefmt::skip]
-const ORDERS_FROM_SEAL: [Entry; 28] = [
+const ORDERS_FROM_SEAL: [Entry; 29] = [
     order!(Election "seal" [WARD, ID, PAPERS], "Seals a ward whose papers are all agreed and judged:\ncount-office town.db seal 7 --id s1"),
     order!(Election "advance" [WARD, ID], "Counts the one stage that is due in a sealed ward:\ncount-office town.db advance 7 --id a1"),
     order!(Election "count" [WARD, ID], "Counts a sealed ward up to a lot or the end, its first stage under ID-1:\ncount-office town.db count 7 --id a"),
@@ -90,6 +90,7 @@ const ORDERS_FROM_SEAL: [Entry; 28] = [
     order!(Office "doubtful" [WARD], "Prints the doubtful papers of a ward, each open or with its verdict:\ncount-office town.db doubtful 7"),
     order!(Office "differences" [BATCH], "Prints on which papers a batch differs, which no clerk may see:\ncount-office town.db differences 13"),
     order!(Office "papers" [BATCH], "Prints how each paper of a taken batch counts, with the candidates' names:\ncount-office town.db papers 12"),
+    order!(Office "fields" [BATCH, ITS_CLERK], "Prints how many fields the marks of each paper of a batch have, and for whom:\ncount-office town.db fields 12"),
     order!(Office "receipts" [ACTOR], "Prints what was accepted, under which id, of an actor or of all:\ncount-office town.db receipts 0"),
     order!(Office "journal" [], "Prints the accepted orders of the office as a script, whole:\ncount-office town.db journal"),
     order!(Office "replay" [SCRIPT, KEEP_GOING], "Sends the orders of a text file, one per line, up to a refusal:\ncount-office town.db replay evening.txt"),
@@ -599,6 +600,10 @@ fn question_named(name: &str, matches: &ArgMatches<'_>) -> Option<Question>
         "doubtful" => Some(Question::Doubtful { ward }),
         "differences" => Some(Question::Differences { batch }),
         "papers" => Some(Question::Papers { batch }),
+        "fields" => Some(Question::Fields {
+            batch,
+            clerk: number_found_in(matches, ITS_CLERK),
+        }),
         "receipts" => Some(Question::Receipts { actor }),
         _ => None,
     }

@@ -55,6 +55,8 @@ pub enum Question {
     Differences { batch: u32 },
     /// How each paper in a batch counts.
     Papers { batch: u32 },
+    /// The fields of a batch's papers: with the candidates' names, as one of its clerks sees them; otherwise with their numbers.
+    Fields { batch: u32, clerk: Option<u32> },
     /// The receipts of one actor, or of all actors.
     Receipts { actor: Option<u32> },
     /// A form of a ward.

@@ -14,6 +14,7 @@ ghost use Rattle.desk.specs.Overviews.{batch_line, differences_line, receipt_lin
 ghost use Rattle.desk.specs.Overviews.{clerk_words, elected_words, keyed_word, open_words, seats_words, size_words, standing_word, twin_words, untaken_words};
 ghost use Rattle.desk.specs.Pages.{failed, line, page_of, page_stopped, printed};
 
+use crate::fields::fields_of;
 use crate::lines::{Failure, LineOutcome};
 use crate::orders::Question;
 use crate::papers::{doubtful_lines, paper_lines};
@@ -48,7 +49,7 @@ fn put_behind(alloc: Global, text: &mut String, number: u32) -> Result<(), Alloc
 
 #[tactic(auto, unfolding(register::specs::Texts::listed))]
 /// Returns numbers separated by a comma and a space: `1, 3`.
-fn listed(alloc: Global, numbers: &[u32]) -> Result<String, AllocError>
+pub(crate) fn listed(alloc: Global, numbers: &[u32]) -> Result<String, AllocError>
     ensures { IfOk result (λ text. string_bytes text ≡ listed numbers.now) }
 {
     let Some((first, others)) = numbers.split_first() else {
@@ -62,7 +63,7 @@ fn listed(alloc: Global, numbers: &[u32]) -> Result<String, AllocError>
 }
 
 /// Returns the candidate numbers in a set, in ascending order.
-fn numbers_in(alloc: Global, columns: &Columns) -> Result<Vec<u32>, AllocError>
+pub(crate) fn numbers_in(alloc: Global, columns: &Columns) -> Result<Vec<u32>, AllocError>
     ensures { IfOk result (λ numbers. numbers.items ≡ columns.now) }
 {
     let mut numbers = Vec::new(alloc);
@@ -374,6 +375,7 @@ pub(crate) fn answer_to<S: Alter>(
         Question::Doubtful { ward } => doubtful_of(alloc, office, ward),
         Question::Differences { batch } => differences_of(alloc, office, batch),
         Question::Papers { batch } => papers_of(alloc, office, batch),
+        Question::Fields { batch, clerk } => fields_of(alloc, office, batch, clerk),
         Question::Form { form, ward } => form_of(alloc, office, form, ward),
         Question::Receipts { actor } => outcome_of(alloc, office.receipts(actor)),
     }

@@ -3,6 +3,7 @@ pub mod WordLemmas
 pub mod FrameSinkLemmas
 pub mod ReadLemmas
 pub mod OrderLemmas
+mod DestinationLemmas
 pub mod KeptLemmas
 pub mod AnswerLemmas
 pub mod ConsoleLemmas

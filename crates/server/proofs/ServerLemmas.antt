@@ -1,8 +1,7 @@
 -- The server, from one time to a later one.
 use Rattle.std.proofs.Common.{◌≡◌, ◌≤◌, ◌<◌, ◌+◌, ◌-◌, ◌^◌, ◌∙◌, ◌⊎◌, ◌∷◌, ◌++◌, ℕ, add-zero, true, List, [], None, Option, Some, ap}
 use Rattle.std.proofs.Common.{append-nil, append_assoc, arith, get_or, inl, inr, insert, length, length-set, map, option_map, refl, remove, set, subst, suc, sym, zero}
-use Rattle.std.specs.Prelude.{◌≢◌, Bool, Err, IfOk, IfSome, Ok, OnOk, Result, is_some, unwrap_or}
-use Rattle.std.specs.Result.{IsErr}
+use Rattle.std.specs.Prelude.{◌≢◌, Bool, Err, IfSome, Ok, OnOk, Result, is_some, unwrap_or}
 use Rattle.std.specs.List.{All, FoldsTo, list_all}
 use Rattle.std.specs.Vec.{with_item}
 use Rattle.std.proofs.lemmas.List.{get_or-set_same, get_or_default, get_or_read, map-append, map_push}

@@ -1,5 +1,6 @@
 pub mod Settings
 pub mod ServedOrders
+pub mod Destinations
 pub mod Endings
 pub mod ConsoleOrders
 pub mod FrameSinks

@@ -1,8 +1,8 @@
 -- An order that is handed over to the server: what its message asks for, the outcome, and its output in frames. The words of an order from the console have the same
 -- meaning, and it is carried out the same way.
-use Rattle.std.specs.Prelude.{◌≡◌, ◌⊎◌, ⊤, Bool, true, List, [], ◌∷◌, None, Some, bytes_eq, drop, if◌then◌else◌, length, map, option_map, take, ◌≤◌, ◌<◌, ◌+◌, Option, ℕ}
+use Rattle.std.specs.Prelude.{◌≡◌, ◌⊎◌, ⊤, Bool, true, List, [], ◌∷◌, None, Some, bytes_eq, drop, if◌then◌else◌, length, map, option_map, take, ◌≤◌, ◌+◌, Option, ℕ}
 use Rattle.std.specs.Int.{from_be_bytes, w64}
-use Rattle.std.specs.List.{Contains, list_all}
+use Rattle.std.specs.List.{list_all}
 use Rattle.std.specs.Str.{is_utf8}
 use Rattle.clap.specs.Words.{Text, subcommand_of}
 use Rattle.sqlite.specs.Held.{Held}
@@ -141,10 +141,6 @@ IsOrderOutcome old closed st folder s asked.Journal cut page = IsJournalTold s p
 IsOrderOutcome old closed st folder s (asked.Mend mending) cut page = IsMendPage s mending page × IsReadAt s closed st
 IsOrderOutcome old closed st folder s (asked.Refused failure) cut page = (page ≡ failed failure) × IsOpenAt s closed st
 IsOrderOutcome old closed st folder s (asked.Misread fault) cut page = (page ≡ words_page fault) × IsOpenAt s closed st
-
--- a path is a bare name, without a folder
-abbrev pub IsBareName : Text → Type 0
-IsBareName path = (0 < length path) × (Contains path 47 → ⊥)
 
 -- the page that a closed office prints: it says that the office is closed, if the order would be carried out otherwise; or else why the order isn't carried out
 abbrev pub closed_office_page : ServedOrder → Page

@@ -1,7 +1,7 @@
 //! The response to an order that is handed over. The order is processed in the open office, and its output is sent in frames.
 //! `console_order` uses the same code to process an order.
 
-ghost use Rattle.std.specs.Prelude.{◌≡◌, ⊤, ◌-◌, ◌^◌, ◌<◌, ℕ, IfSome, List, [], None, true};
+ghost use Rattle.std.specs.Prelude.{◌≡◌, ⊤, ◌-◌, ◌^◌, ◌<◌, ℕ, IfNone, IfSome, List, [], false, option_map, true};
 ghost use Rattle.clap.specs.Words.{Text};
 ghost use Rattle.sqlite.specs.State.{HasCleanDisk};
 ghost use Rattle.sqlite.specs.Held.{state};
@@ -10,9 +10,10 @@ ghost use Rattle.connections.specs.Streams.{HasTaken, stream_of};
 ghost use Rattle.connections.specs.Clients.{IsSent};
 ghost use Rattle.order_protocol.specs.Messages.{order_message_entry, message_part_entries};
 ghost use Rattle.desk.specs.Mends.{IsMendPage};
-ghost use Rattle.desk.specs.Pages.{Shows, Tells, outputs_of};
+ghost use Rattle.desk.specs.Pages.{IsErrorTold, Shows, Tells, failed, outputs_of};
+ghost use Rattle.server.specs.Destinations.{EndsWhereAsked, destination_at, destination_entry, folder_typed_in, is_bare_name};
 ghost use Rattle.server.specs.Settings.{settings_in};
-ghost use Rattle.server.specs.ServedOrders.{AsksSo, IsBareName, IsOrderOutcome, FollowsOrder, IsWholeMessage, IsCopyTold, IsMessage, IsResponseToOrder, folder_of, closed_office_page};
+ghost use Rattle.server.specs.ServedOrders.{AsksSo, IsOrderOutcome, FollowsOrder, IsWholeMessage, IsCopyTold, IsMessage, IsResponseToOrder, folder_of, closed_office_page};
 
 use crate::frame_sink::FrameSink;
 use crate::order_arrival::LENGTH;
@@ -90,7 +91,7 @@ fn print_closed<O: Sink, E: Sink>(asked: &ServedOrder<'_>, out: &mut O, err: &mu
 
 /// Returns whether a path is a bare name: not empty, and without a `/`.
 fn is_bare_name(path: &str) -> bool
-    ensures { result ≡ true → IsBareName path.now }
+    ensures { result ≡ is_bare_name path.now }
 {
     if path.is_empty() {
         return false;
@@ -102,7 +103,7 @@ fn is_bare_name(path: &str) -> bool
 /// from the console, that folder is empty, and the path must be a bare name. Returns `None` if it isn't, or if the folder's name
 /// isn't UTF-8.
 fn destination_of<'t>(folder: Option<&'t [u8]>, path: &'t str) -> Option<Destination<'t>>
-    ensures { folder.entry ≡ None → IfSome result (λ to. (to.folder.now ≡ []) × IsBareName to.path.now) }
+    ensures { option_map destination_entry result ≡ destination_at (option_map (λ folder. folder.now) folder.entry) path.entry.now }
 {
     match folder {
         Some(folder) => match str::from_utf8(folder) {
@@ -119,7 +120,7 @@ fn destination_of<'t>(folder: Option<&'t [u8]>, path: &'t str) -> Option<Destina
     }
 }
 
-/// Copies the office for an order, to a path relative to the order's folder, if the path is a valid destination.
+/// Copies the office for an order, to the file that its path means. If it means none, only prints a failure.
 fn copy_for_order<A: ServedFile, S: Alter, O: Sink, E: Sink>(
     order: &OrderContext<'_, A>,
     path: &str,
@@ -131,6 +132,8 @@ fn copy_for_order<A: ServedFile, S: Alter, O: Sink, E: Sink>(
     requires err { E.failed err.old < 2 ^ 64 - 1 }
     ensures told { let outputs = outputs_of O.taken O.failed E.taken E.failed in Tells (outputs out.old err.old) (outputs out.new err.new) result
         (λ _ page. WhenOpenAt (state S.Store) office.old office.new (λ s. IsCopyTold s page × IsReadAt s office.new.closed (state S.Store office.new.held))) }
+    ensures somewhere { IfSome (destination_at (folder_typed_in order.now.attached) path.now) (λ to. A.ended order.now.served_file.now to.folder to.path result) }
+    ensures nowhere { IfNone (destination_at (folder_typed_in order.now.attached) path.now) (IsErrorTold E.taken E.failed err.old err.new (failed Failure.CopyFailed).err 3 result) }
     ensures clean { HasCleanDisk (state S.Store office.new.held) → HasCleanDisk (state S.Store office.old.held) }
 {
     match destination_of(order.attached.folder, path) {
@@ -139,8 +142,8 @@ fn copy_for_order<A: ServedFile, S: Alter, O: Sink, E: Sink>(
     }
 }
 
-/// Makes a new office from the journal, at the order's destination, and returns the status. If there is no such path, prints a
-/// failure.
+/// Makes a new office from the journal, in the file that the order's path means, and returns the status. If it means none, only
+/// prints a failure.
 fn mend_for_order<A: ServedFile, S: Alter, O: Sink, E: Sink>(
     order: &OrderContext<'_, A>,
     mending: &MendOrder<'_>,
@@ -152,6 +155,8 @@ fn mend_for_order<A: ServedFile, S: Alter, O: Sink, E: Sink>(
     requires err { E.failed err.old < 2 ^ 64 - 1 }
     ensures told { let outputs = outputs_of O.taken O.failed E.taken E.failed in Tells (outputs out.old err.old) (outputs out.new err.new) result
         (λ _ page. WhenOpenAt (state S.Store) office.old office.new (λ s. IsMendPage s mending.now page × IsReadAt s office.new.closed (state S.Store office.new.held))) }
+    ensures somewhere { IfSome (destination_at (folder_typed_in order.now.attached) mending.now.path.now) (λ to. A.ended order.now.served_file.now to.folder to.path result) }
+    ensures nowhere { IfNone (destination_at (folder_typed_in order.now.attached) mending.now.path.now) (IsErrorTold E.taken E.failed err.old err.new (failed Failure.CopyFailed).err 3 result) }
     ensures clean { HasCleanDisk (state S.Store office.new.held) → HasCleanDisk (state S.Store office.old.held) }
 {
     match destination_of(order.attached.folder, mending.path) {
@@ -173,6 +178,8 @@ fn do_open<A: ServedFile, S: Alter, O: Sink, E: Sink>(
         (λ cut page. WhenOpenAt (state S.Store) office.old office.new
         (λ s. IsOrderOutcome (state S.Store office.old.held) office.new.closed (state S.Store office.new.held) (folder_of
         (message_part_entries order.now.attached.files.now)) s order.now.asked.now cut page)) }
+    ensures ended { EndsWhereAsked (A.ended order.now.served_file.now) (IsErrorTold E.taken E.failed err.old err.new (failed Failure.CopyFailed).err 3 result)
+        (folder_typed_in order.now.attached) order.now.asked.now result }
     ensures clean { HasCleanDisk (state S.Store office.new.held) → HasCleanDisk (state S.Store office.old.held) }
 {
     match order.asked {
@@ -200,6 +207,9 @@ pub fn do_asked<A: ServedFile, S: Alter, O: Sink, E: Sink>(
         (message_part_entries order.now.attached.files.now)) s order.now.asked.now cut page)
         × (office.old.closed ≡ true → page ≡ closed_office_page order.now.asked.now)) }
     ensures closed { office.old.closed ≡ true → office.new ≡ office.old }
+    ensures ended { office.old.closed ≡ false
+        → EndsWhereAsked (A.ended order.now.served_file.now) (IsErrorTold E.taken E.failed err.old err.new (failed Failure.CopyFailed).err 3 result)
+        (folder_typed_in order.now.attached) order.now.asked.now result }
     ensures clean { HasCleanDisk (state S.Store office.new.held) → HasCleanDisk (state S.Store office.old.held) }
 {
     if office.is_closed() {

@@ -1,7 +1,7 @@
 //! The file of the office that is served, and what else an order needs: a new file for a copy or for another office, and empty
 //! databases for a trial run of a journal.
 
-ghost use Rattle.std.specs.Prelude.{◌≡◌, ◌≢◌, ◌-◌, ◌^◌, ◌<◌, Bool, IfSome, Option, Some, true};
+ghost use Rattle.std.specs.Prelude.{◌≡◌, ◌≢◌, ◌-◌, ◌^◌, ◌<◌, Bool, IfSome, List, Option, Some, true, ℕ};
 ghost use Rattle.sqlite.specs.Held.{state};
 ghost use Rattle.sqlite.specs.State.{HasCleanDisk};
 ghost use Rattle.office.specs.Answers.{IsReadAt, WhenOpenAt};
@@ -29,6 +29,13 @@ pub trait ServedFile {
     /// a real file on this machine.
     ghost whole: { Self → Option Bool };
 
+    /// That a new office has taken the place of this one. An implementation for a file that can't move says that this never holds.
+    /// Nothing is known about a real file on this machine.
+    ghost moved: { Self → Type 0 };
+
+    /// That an order which makes a file ended with a status, given the file's folder, its path, and that status.
+    ghost ended: { Self → List ℕ → List ℕ → ℕ → Type 0 };
+
     /// Returns whether the file of the office is still there, whole, and not replaced by another. If the answer is permanently
     /// known, returns that answer.
     fn is_whole(&self) -> bool
@@ -36,7 +43,8 @@ pub trait ServedFile {
 
     /// Returns whether a new office has taken the place of this one. If so, the file isn't whole.
     fn has_moved(&self) -> bool
-        ensures { result ≡ true → whole self.now ≢ Some true };
+        ensures moved { result ≡ true → moved self.now }
+        ensures gone { result ≡ true → whole self.now ≢ Some true };
 
     /// Copies the office to a new file, and prints how much the copy contains.
     fn copy<S: Alter, O: Sink, E: Sink>(
@@ -51,6 +59,7 @@ pub trait ServedFile {
         ensures told { let outputs = outputs_of O.taken O.failed E.taken E.failed in Tells (outputs out.old err.old) (outputs out.new err.new) result
             (λ _ page. WhenOpenAt (state S.Store) office.old office.new (λ s. IsCopyTold s page)) }
         ensures stays { WhenOpenAt (state S.Store) office.old office.new (λ s. IsReadAt s office.new.closed (state S.Store office.new.held)) }
+        ensures ended { ended self.now to.entry.folder.now to.entry.path.now result }
         ensures clean { HasCleanDisk (state S.Store office.new.held) → HasCleanDisk (state S.Store office.old.held) };
 
     /// Prints the journal of the office.
@@ -82,5 +91,6 @@ pub trait ServedFile {
         ensures told { let outputs = outputs_of O.taken O.failed E.taken E.failed in Tells (outputs out.old err.old) (outputs out.new err.new) result
             (λ _ page. WhenOpenAt (state S.Store) office.old office.new (λ s. IsMendPage s asked.now page)) }
         ensures stays { WhenOpenAt (state S.Store) office.old office.new (λ s. IsReadAt s office.new.closed (state S.Store office.new.held)) }
+        ensures ended { ended self.now to.entry.folder.now to.entry.path.now result }
         ensures clean { HasCleanDisk (state S.Store office.new.held) → HasCleanDisk (state S.Store office.old.held) };
 }

@@ -304,7 +304,8 @@ fn are_idle<L>(clients: &[Client<L>]) -> bool
 /// Returns whether a new office has taken the place of the one that is served, and all of these connections are idle.
 fn has_moved<A: ServedFile, L>(served_file: &A, clients: &[Client<L>]) -> bool
     ensures idle { result ≡ true → list_all is_idle clients.now ≡ true }
-    ensures moved { result ≡ true → A.whole served_file.now ≢ Some true }
+    ensures moved { result ≡ true → A.moved served_file.now }
+    ensures gone { result ≡ true → A.whole served_file.now ≢ Some true }
 {
     served_file.has_moved() && are_idle(clients)
 }
@@ -327,7 +328,8 @@ fn serve_rounds<D: Network, A: ServedFile, S: Alter>(
     ensures all { OnOk result (serving.entry.most ≤ table.new.counted) }
     ensures none { OnOk result (table.new.clients.items ≡ []) }
     ensures idle { OnMoved result (list_all is_idle table.new.clients.items ≡ true) }
-    ensures moved { OnMoved result ((settings_in A.whole serving.entry.server_settings).whole ≢ Some true) }
+    ensures moved { OnMoved result (A.moved serving.entry.server_settings.served_file.now) }
+    ensures gone { OnMoved result ((settings_in A.whole serving.entry.server_settings).whole ≢ Some true) }
     ensures ended { IsEndedBy (D.known network.old) (D.known network.new) result }
 {
     for round in 0..ROUNDS {
@@ -380,8 +382,8 @@ fn serve_rounds<D: Network, A: ServedFile, S: Alter>(
 /// saying that the client must wait or that the file is gone.
 ///
 /// The error says why serving ended early: the network or its clock failed, the table couldn't be allocated, the number of
-/// rounds reached its maximum, or a new office took the place of this one. What was answered before that remains valid. The
-/// connections that are still open then are closed.
+/// rounds reached its maximum, or a new office took the place of this one. The last is reported only if the served file says so.
+/// What was answered before remains valid. The connections that are still open then are closed.
 pub fn serve_connections<D: Network, A: ServedFile, S: Alter>(
     alloc: Global,
     network: &mut D,
@@ -394,6 +396,7 @@ pub fn serve_connections<D: Network, A: ServedFile, S: Alter>(
     ensures ended { IsEndedBy (D.known network.old) (D.known network.new) result }
     ensures closed { office.old.closed ≡ true → office.new ≡ office.old }
     ensures clean { HasCleanDisk (state S.Store office.new.held) → HasCleanDisk (state S.Store office.old.held) }
+    ensures moved { OnMoved result (A.moved server_settings.entry.served_file.now) }
     // What is sent to each clerk depends only on what that clerk sees.
     ensures blind { ServersAnswerAsSeen (stream_of D.Stream.held D.Stream.taken D.Stream.failed) (state S.Store) }
 {

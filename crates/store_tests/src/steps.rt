@@ -1,6 +1,6 @@
 //! Steps on an open database, and the output of each. This module names no store.
 
-ghost use Rattle.std.specs.Prelude.{◌≡◌, ◌+◌, ◌-◌, ◌^◌, ◌<◌, Some, true};
+ghost use Rattle.std.specs.Prelude.{◌≡◌, ◌+◌, ◌-◌, ◌^◌, ◌<◌, ⊤, Some, true};
 
 use super::clients::{Evening, LimitedWriter, Port, TestNetwork, joined, pages_of};
 use super::loads::loads;
@@ -295,6 +295,10 @@ pub struct Unaided;
 
 impl ServedFile for Unaided {
     ghost whole = { λ _. Some true };
+
+    ghost moved = { λ _. ⊥ };
+
+    ghost ended = { λ _ _ _ _. ⊤ };
 
     fn is_whole(&self) -> bool {
         true

@@ -1,21 +1,14 @@
 """The pages of docs/: their links, their sentences, and what they say of orders, of tools and of nginx."""
-import itertools
-import re
-import shlex
-import subprocess
-import sys
-from itertools import takewhile
+import itertools, re, shlex
 
 from office_tools.command import tools
 from office_tools.election import ELECTION, READS, REPLAY
-from office_tools.office import ROOT, SCRIPT, Office, program, temporary_folder
-from office_tools.releasing import help as helps
-from office_tools.releasing.book import slug
+from office_tools.office import ROOT, SCRIPT, Office, program, ran
+from office_tools.releasing import listed, orders_of, slug
 
 GUIDE, MESSAGES = [ROOT / f"docs/officer/{name}.md" for name in ("by-words", "putting-right")], "when-it-says-no.md#"
 FENCED = re.compile(r"^(```|~~~)([^\n]*)\n(.*?)^\1[^\n]*$", re.S | re.M)
-LINK = re.compile(r"\]\(([^)\s]+)\)")
-PRINTED = re.compile(r"^(refused \d+|file fault \d+|fault \d+)\b", re.M)
+LINK, PRINTED = re.compile(r"\]\(([^)\s]+)\)"), re.compile(r"^(refused \d+|file fault \d+|fault \d+)\b", re.M)
 
 def pages():
     return [ROOT / name for name in ("README.md", "CHANGELOG.md", "CONTRIBUTING.md")] + sorted((ROOT / "docs").glob("**/*.md"))
@@ -26,34 +19,28 @@ def headings(page):
     names = [slug(re.sub(r"\[([^]]*)\]\([^)]*\)", r"\1", heading)) for heading in found]
     return {f"{name}-{names[:place].count(name)}".removesuffix("-0") for place, name in enumerate(names)}
 
-def lost(page):
-    for target in LINK.findall(re.sub(r"`[^`\n]*`", "code", FENCED.sub("", page.read_text(encoding="utf-8")))):
-        file, _, heading = target.partition("#")
-        to = (page.parent / file).resolve() if file else page
-        if re.match(r"[a-z]+:", target):
-            continue
-        if not to.exists() or heading and (to.suffix != ".md" or heading not in headings(to)):
-            yield f"{page.relative_to(ROOT)}: no file or heading of {target}"
-
-def unlinked():
-    text = "\n".join(page.read_text(encoding="utf-8") for page in GUIDE)
-    linked = [target.removeprefix(MESSAGES) for target in LINK.findall(text) if target.startswith(MESSAGES)]
-    for found in sorted({found for block in FENCED.findall(text) for found in PRINTED.findall(block[2])}):
-        if not any(heading.startswith(found.replace(" ", "-") + "-") for heading in linked):
-            yield f"the guide: no link for {found}"
-
 def check_links():
     """Compares the links of the pages with what they lead to.
 
     A link within the repository leads to a file that is there, and what comes after its # is a heading of that page. Each refusal, file
     fault and fault that the pages of GUIDE show as printed has a link there to its own heading in docs/officer/when-it-says-no.md.
     """
-    return [*(fault for page in pages() for fault in lost(page)), *unlinked()]
+    for page in pages():
+        for target in LINK.findall(re.sub(r"`[^`\n]*`", "code", FENCED.sub("", page.read_text(encoding="utf-8")))):
+            file, _, heading = target.partition("#")
+            to = (page.parent / file).resolve() if file else page
+            is_there = to.exists() and (not heading or to.suffix == ".md" and heading in headings(to))
+            if not is_there and not re.match(r"[a-z]+:", target):
+                yield f"{page.relative_to(ROOT)}: no file or heading of {target}"
+    text = "\n".join(page.read_text(encoding="utf-8") for page in GUIDE)
+    linked = [target.removeprefix(MESSAGES) for target in LINK.findall(text) if target.startswith(MESSAGES)]
+    for found in sorted({found for block in FENCED.findall(text) for found in PRINTED.findall(block[2])}):
+        if not any(heading.startswith(found.replace(" ", "-") + "-") for heading in linked):
+            yield f"the guide: no link for {found}"
 
 MOST, LEAST, MOST_IN_COMMENTS = 30, 4, 40
 SHARES, OTHERS = {5: "README evening by-words when-it-says-no putting-right tellers agents installing network rules glossary",
                   20: "proofs limits", 10: "orders files sheets ballots records http console-api screen-api tables faults"}, 15
-# What begins a line of a comment, and such lines in a row.
 SIGN = r"^[ \t]*(?:///|//!|//|--)(?: |$)"
 COMMENTS = re.compile(rf"(?:{SIGN}.*\n?)+", re.M)
 
@@ -82,7 +69,6 @@ IDIOMS = {
 # What the program prints, to the letter; and a term of design.
 ALLOWED = {"docs/formats/ballots.md": ("a line behind the ward's name", "the line 0 behind the papers"),
            "crates/tables/src/walking.rt": ("visitor",), "crates/tables/specs/Walking.antt": ("visitor",)}
-# A page of tables that the tools made, and the books.
 TABLES, BOOKS = "results.md", {"officer": ["officer/"], "formats": ["formats/"], "engineering": ["engineering/", "DECISIONS"]}
 PLACES = "crates/*/src/**/* crates/*/specs/**/* crates/**/*.edit tools/**/* examples/* release/package/**/* count-office".split()
 SUFFIXES = (".rt", ".antt", ".edit", ".py", ".sh", ".bash", ".fish", ".zsh", ".service", ".js")
@@ -142,17 +128,7 @@ def check_plain():
     return any(found) or bool(named)
 
 RESULTS, LAST = ROOT / "docs/engineering/results.md", "**Last run**"
-HEAD = """# Results
 
-What the tools printed when they were last run. [Testing](testing.md) and [Cost](cost.md) say what the tables show. `tools/check results \
---write` makes this page.
-
-`--help` after the name of a tool prints what it requires of every run, with the words that it accepts; so does its file. \
-A run ends with status 1 if a condition isn't met, and draws whatever it draws at random from a seed.
-
-*Rows before it found* means that the file has the rows before the order, and *rows after it* those that the order makes. A column such as \
-*fault 102* counts the runs in which the program reports [that fault](../officer/when-it-says-no.md#faults).
-"""
 def section(tool, result):
     """Returns the section of a tool, such as `tools/try killed`, or nothing if there is none of that name."""
     kind, name = re.fullmatch(r"tools/(\w+) ?(\S*)", tool).groups()
@@ -176,15 +152,15 @@ def check_results(*, write=False, of=""):
     results --write --of killed`, the tables that it reads replace those of that tool; lines that aren't of tables are left out.
     """
     there = RESULTS.read_text(encoding="utf-8")
-    sections = re.findall(r"^## `([^`]*)`\n(.*?)(?=^## |\Z)", there, re.S | re.M)
-    results = {tool: text.partition(LAST)[2].strip() for tool, text in sections}
+    head, *sections = re.split(r"^## `([^`]*)`\n", there, flags=re.M)
+    results = {tool: text.partition(LAST)[2].strip() for tool, text in zip(sections[::2], sections[1::2])}
     named = [tool for tool in results if tool.endswith(f" {of}")]
     lost = [tool for tool, result in results.items() if not section(tool, result)] or [of] * (of != "" and not named)
     if lost:
         return [f"{RESULTS.name}: {tool} is no tool, or has no result" for tool in lost]
     if of:
-        results[named[0]] = replaced(results[named[0]], sys.stdin.read())
-    made = HEAD + "".join(section(*found) for found in results.items())
+        results[named[0]] = replaced(results[named[0]], open(0).read())
+    made = head.rstrip("\n") + "\n" + "".join(section(*found) for found in results.items())
     if write:
         RESULTS.write_text(made, encoding="utf-8")
     return [f"{RESULTS.name}: not what the tools say; run tools/check results --write"] * (made != there and not write)
@@ -204,15 +180,9 @@ class Order:
     def takes(self, words):
         """Returns whether the words are of its form; some may be left out, and the last one may be there any number of times."""
         needed = [word for word in self.words if word[0] != "["]
-        given = list(takewhile(lambda word: not word.startswith("--"), words[1:]))
+        given = list(itertools.takewhile(lambda word: not word.startswith("--"), words[1:]))
         is_enough = len(needed) <= len(given) and (self.has_many or len(given) <= len(self.words))
         return words[:1] == [self.name] and is_enough and ("--id" in words) == self.has_id
-
-def in_script(order):
-    with temporary_folder() as folder:
-        office = Office(folder).begin()
-        office.write(SCRIPT, [shlex.join(order.example)])
-        return "can't be used in a script" not in office.run("replay", SCRIPT).err
 
 def unlike(place, found, wanted):
     """Yields the names that are in only one of two lists, and whether one is there twice."""
@@ -221,48 +191,44 @@ def unlike(place, found, wanted):
         yield f"{place}: an order stands twice"
 
 def unlike_in_pages(orders, scripted):
-    text = (ROOT / "docs/formats/orders.md").read_text(encoding="utf-8")
+    text, where = (ROOT / "docs/formats/orders.md").read_text(encoding="utf-8"), "formats/orders.md"
     rows = re.findall(r"^\| `([a-z-]+)([^`]*)` \| (.*)$", text.split("\n## All orders\n")[1].split("\n## ")[0], re.M)
-    yield from unlike("formats/orders.md", [name for name, _, _ in rows], orders)
+    yield from unlike(where, [name for name, _, _ in rows], orders)
     for order, words, rest in ((orders[name], words, rest) for name, words, rest in rows if name in orders):
-        if order.name + words != order.typed:
-            yield f"formats/orders.md: {order.name + words} is not {order.typed}"
-        yield from (f"formats/orders.md: {order.name}: {option} is missing" for option in order.options if f"`{option}`" not in rest)
+        yield from [f"{where}: {order.name + words} is not {order.typed}"] * (order.name + words != order.typed)
+        yield from (f"{where}: {order.name}: {option} is missing" for option in order.options if f"`{option}`" not in rest)
     table = re.findall(r"^\| ([A-Z_, ]+) \| (.*) \|$", text.split("| Word | Range |")[1].split("\n\n")[0], re.M)
     ranges = {name: RANGE.findall(told)[:1] for names, told in table for name in names.split(", ")}
-    for order in orders.values():
-        for word, told in order.ranges.items():
-            if ranges.get(word) != told:
-                yield f"formats/orders.md: {word} of {order.name}: {ranges.get(word)} is not {told}"
+    named = ((order.name, *range_of) for order in orders.values() for range_of in order.ranges.items())
+    yield from (f"{where}: {word} of {name}: {ranges.get(word)} is not {told}" for name, word, told in named if ranges.get(word) != told)
     files = (ROOT / "docs/formats/files.md").read_text(encoding="utf-8").split("- *Orders.* These")[1].split("\n")[0]
     yield from unlike("formats/files.md, scripts", re.findall(r"`([a-z-]+)`", files), scripted)
     played = (ROOT / "examples/help.sh").read_text(encoding="utf-8").split("for order in ")[1].split("; do")[0]
     yield from unlike("examples/help.sh", played.replace("\\\n", " ").split(), orders)
 
-def differences():
-    commands, listed = helps.listed(program())
-    orders = {told.name: Order(told) for told in helps.orders_of(program())}
-    yield from unlike("--help", [*commands, *(name for name, _ in listed)], orders)
-    for name, order in orders.items():
-        if not (order.name == name and order.takes(order.example)):
-            yield f"--help: the help of {name}, or its example, is of other words"
-    for typed, order in ((f"{name} {words}".strip(), orders[name]) for name, words in listed):
-        if typed != order.typed:
-            yield f"--help: {typed} is not {order.typed}"
-    scripted = {name for name, order in orders.items() if order.example and in_script(order)}
-    yield from unlike_in_pages(orders, scripted)
-    played = [order.words for order in (*ELECTION, REPLAY, *(order for _, order in READS))]
-    yield from (f"election.py: {words} is no order" for words in played if words[0] not in orders or not orders[words[0]].takes(words))
-    yield from (f"election.py: {name} is missing" for name in sorted((scripted | {"init"}) - {words[0] for words in played}))
-
-def check_orders():
+def check_orders(room):
     """Compares what names the orders of the program with the program's own help.
 
     These are what `--help` tells of the words of orders, and their examples; the tables of orders and of words, with their ranges, in
     docs/formats/orders.md; the orders that a script may have, in docs/formats/files.md; the orders that examples/help.sh plays; and the
     election of tools/try, which has each order that a script may have. Which these are, the program tells of a script of one line.
     """
-    return list(differences())
+    commands, lists = listed(program())
+    orders = {told.name: Order(told) for told in orders_of(program())}
+    yield from unlike("--help", [*commands, *(name for name, _ in lists)], orders)
+    yield from (f"--help: the help of {name}, or its example, is of other words" for name, order in orders.items()
+                if order.name != name or not order.takes(order.example))
+    typed = ((f"{name} {words}".strip(), orders[name].typed) for name, words in lists)
+    yield from (f"--help: {found} is not {wanted}" for found, wanted in typed if found != wanted)
+    office, scripted = Office(room).begin(), set()
+    for name, order in orders.items():
+        office.write(SCRIPT, [shlex.join(order.example)])
+        if order.example and "can't be used in a script" not in office.run("replay", SCRIPT).err:
+            scripted.add(name)
+    yield from unlike_in_pages(orders, scripted)
+    played = [order.words for order in (*ELECTION, REPLAY, *(order for _, order in READS))]
+    yield from (f"election.py: {words} is no order" for words in played if words[0] not in orders or not orders[words[0]].takes(words))
+    yield from (f"election.py: {name} is missing" for name in sorted((scripted | {"init"}) - {words[0] for words in played}))
 
 NAME, NETWORK = "count.example.org", "192.0.2.0/24"
 OWN = re.compile(rf"/etc/nginx/count-office-lan/{re.escape(NAME)}-\d{{8}}\.(pem|key);")
@@ -276,10 +242,17 @@ NETWORKS = {"192.168.7.20": True, "10.0.0.0/8": True, "FD00:7::/64": True, "192.
 PORTS = {"1": True, "65535": True, "0": False, "65536": False, "080": False, "8080;": False, "": False}
 
 def printed_by(*words):
-    ran = subprocess.run([ROOT / "release/package/count-office-lan", "--print", *words], capture_output=True, text=True)
-    return ran.returncode, ran.stdout, ran.stderr
+    return ran(ROOT / "release/package/count-office-lan", "--print", *words)
 
-def wrongly_answered():
+def check_lan():
+    """Compares the configuration of nginx that count-office-lan writes with that of docs/officer/network.md, and tries wrong words.
+
+    Both have to be the same but for the paths of the certificate and its key. What is refused ends with status 2 and a sentence.
+    """
+    page = re.search(r"```nginx\n(.*?)```", (ROOT / "docs/officer/network.md").read_text(encoding="utf-8"), re.DOTALL)[1]
+    own = OWN.sub(lambda path: DOCUMENTED[path[1]], printed_by(NAME, "--network", NETWORK, "--port", "8080").out)
+    differing = [lines for lines in itertools.zip_longest(page.split("\n"), own.split("\n")) if len(set(lines)) > 1][:1]
+    yield from (f"docs/officer/network.md has the line {theirs!r}, and count-office-lan {ours!r}" for theirs, ours in differing)
     cases = [((name, "--network", NETWORK), name in ACCEPTED) for name in ACCEPTED + REFUSED]
     cases += [((NAME, "--network", network), is_one) for network, is_one in NETWORKS.items()]
     cases += [((NAME, "--network", NETWORK, "--port", port), is_one) for port, is_one in PORTS.items()]
@@ -288,14 +261,3 @@ def wrongly_answered():
         status, out, err = printed_by(*words)
         if (status, bool(out)) != ((0, True) if is_accepted else (2, False)) or is_accepted == err.startswith("count-office-lan: "):
             yield f"count-office-lan --print {' '.join(words)}: status {status}, {err}"
-
-def check_lan():
-    """Compares the configuration of nginx that count-office-lan writes with that of docs/officer/network.md, and tries wrong words.
-
-    Both have to be the same but for the paths of the certificate and its key. What is refused ends with status 2 and a sentence.
-    """
-    page = re.search(r"```nginx\n(.*?)```", (ROOT / "docs/officer/network.md").read_text(encoding="utf-8"), re.DOTALL)[1]
-    own = OWN.sub(lambda path: DOCUMENTED[path[1]], printed_by(NAME, "--network", NETWORK, "--port", "8080")[1])
-    differing = [f"docs/officer/network.md has the line {theirs!r}, and count-office-lan {ours!r}"
-                 for theirs, ours in itertools.zip_longest(page.split("\n"), own.split("\n")) if theirs != ours]
-    return [*differing[:1], *wrongly_answered()]

@@ -1,20 +1,12 @@
 """The pages that the program serves: what they may run, and what their scripts do without a browser."""
-import base64
-import hashlib
-import json
-import os
-import random
-import re
-import subprocess
+import base64, hashlib, json, os, random, re, subprocess
 from pathlib import Path
 
-from office_tools.election import CODES, OFFICE_CODE, evening_office
-from office_tools.made_up import Ward
+from office_tools.election import CODES, OFFICE_CODE, Ward, evening_office
 from office_tools.office import ROOT, basic, needs, request, temporary_folder, wrong_if
-from office_tools.recount import Ballots, Count, blt, written
+from office_tools.recount import blt, counts
 
-CONSTANT = re.compile(r'const (\w+): &str =\s+r#"(.*?)"#;', re.DOTALL)
-FORMAT = re.compile(r'format!\(in alloc;\s*"(.*?)"\s*\)', re.DOTALL)
+CONSTANT, FORMAT = re.compile(r'const (\w+): &str =\s+r#"(.*?)"#;', re.S), re.compile(r'format!\(in alloc;\s*"(.*?)"\s*\)', re.S)
 HASHED = re.compile(r"let (\w+) = hash_source\(alloc, (\w+)\.as_bytes\(\)\)")
 PAGES = KEYING, CONSOLE, SCREEN = "keying_page", "console_page", "screen_page"
 PARTS, CLERK = ("script", "style"), 4
@@ -51,17 +43,16 @@ def wrong_in(page, policy):
     if lacking := [name for name in PARTS if inner(page, name) is None]:
         return [f"the page has not one {name}" for name in lacking]
     wrong = [f"the policy has another {name}" for name in PARTS if f"{name}-src {hash_source(inner(page, name))};" not in policy]
-    wrong += [] if page.isascii() else ["the page isn't ASCII"]
+    wrong += ["the page isn't ASCII"] * (not page.isascii())
     return wrong + [f"{what}: {found[0]!r}" for what, pattern in FORBIDDEN.items() for found in re.finditer(pattern, page)]
 
 def wrong_served(crate, target, name, code):
     codes, headers = CODES | {"office": OFFICE_CODE}, [f"Authorization: {basic(name, code)}"] if name else []
     with temporary_folder() as folder, evening_office(folder, codes).serve("--codes", "codes.txt", "--public") as serving:
         head, _, served = serving.ask(request(target, *headers)).decode().partition("\r\n\r\n")
-    page, policy = page_of_sources(crate)
-    told = re.search(r"(?i)^content-security-policy: (.*?)\r?$", head, re.M)[1]
-    wrong = [] if served == page else ["the page that is served isn't that of the sources"]
-    return wrong + ([] if told == policy else [f"the policy that is served isn't that of the sources: {told}"])
+    found = served, re.search(r"(?i)^content-security-policy: (.*?)\r?$", head, re.M)[1]
+    pairs = zip(("page", "policy"), found, page_of_sources(crate))
+    return [f"the {part} that is served isn't that of the sources: {own[:300]!r}" for part, own, wanted in pairs if own != wanted]
 
 def check_page():
     """Checks that the pages for clerks, for the returning officer and for the hall may run their own script and style, and nothing else.
@@ -86,13 +77,12 @@ WARDS = [
 
 def counted(ward, name, seats, names, *papers):
     """Returns what the screen may show of a ward, counted apart from the program, and of whom lots were drawn, by the stage."""
-    lines, drawn = blt(seats, papers[0], names, papers[1] or [], name, ward, *papers[2:])[:None if papers[1] else -1], []
-    while (count := Count(Ballots(written(lines)))).waits:
-        drawn.append(count.waits)
-        lines.append(f"# Lot at stage {count.waits[0]}: {count.waits[1][0]}")
+    lines = blt(seats, papers[0], names, papers[1] or [], name, ward, *papers[2:])[:None if papers[1] else -1]
+    *waiting, count = counts(lines, min)
     head, *stages = re.split("(?m)^(?=Stage )", count.sheet().decode())
     sheets = [head + "".join(stages[:number]) for number in range(len(stages) + 1)]
-    return {"ward": ward, "name": name, "names": names, "sheets": sheets, "declaration": count.declaration().decode(), "drawn": drawn}
+    return {"ward": ward, "name": name, "names": names, "sheets": sheets, "declaration": count.declaration().decode(),
+            "drawn": [each.waits for each in waiting]}
 
 def made_up(chance):
     """Returns the same of a made-up ward that has a poll."""
@@ -102,23 +92,19 @@ def made_up(chance):
     gone = [number for number, name in enumerate(names, 1) if number not in ward.names]
     return counted(ward.number, ward.name, ward.seats, names, bundles, rejected, gone)
 
-def run(*words, text):
-    return subprocess.run(["node", *words], env=os.environ | {"NODE_PATH": str(MODULES)}, input=text, text=True, check=False).returncode
-
-def check_script(file: Path = None):
+def check_script(room, file: Path = None):
     """Runs the scripts of the pages without a browser, and checks what they show, send and store.
 
     A clerk is denied, lists batches, keys papers and sends them, and the office accepts the keying, refuses it, fails or doesn't answer.
     The screen in the hall shows wards of an office that changes, and that may be down. The officer at the console seals a ward, is warned
     of batches that have the same papers, puts orders right in a new office, and downloads forms; `tools/try console-evening` plays whole
-    evenings there. Then faults are planted in each page, one at a time: its test has to notice each. FILE is a page for clerks as a program
-    serves it.
+    evenings there. Then faults are planted in the pages, and each must be noticed. FILE is a page for clerks as a program serves it.
     """
     needs("node")
     wrong_if(not (MODULES / "jsdom").exists(), "jsdom is missing; on Debian: apt-get install node-jsdom")
     chance, clerks = random.Random(11), file.read_text(encoding="utf-8") if file else page_of_sources()[0]
     counts = [*(counted(*ward) for ward in WARDS), *(made_up(chance) for _ in range(12))]
-    with temporary_folder() as folder:
-        (folder / "counts").write_text(json.dumps(counts), encoding="utf-8")
-        pages = {"clerks": clerks, "console": page_of_sources(CONSOLE)[0], "screen": page_of_sources(SCREEN)[0]}
-        return max(run(PLAYS, name, folder / "counts", text=page) for name, page in pages.items())
+    pages = {"clerks": clerks, "console": page_of_sources(CONSOLE)[0], "screen": page_of_sources(SCREEN)[0]}
+    (room / "counts").write_text(json.dumps(counts), encoding="utf-8")
+    how = {"env": os.environ | {"NODE_PATH": str(MODULES)}, "text": True, "check": False}
+    return max(subprocess.run(["node", PLAYS, name, room / "counts"], input=page, **how).returncode for name, page in pages.items())

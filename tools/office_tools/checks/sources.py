@@ -1,56 +1,136 @@
-"""The sources of the crates, compared with the pages that name them and with the house rules; and the code of the tools."""
-import collections
-import importlib.machinery
-import importlib.util
-import os
-import re
-import shutil
-import subprocess
-import sys
-import time
-from concurrent.futures import ThreadPoolExecutor
-from pathlib import Path
+"""The sources of the crates, read as text: compared with the pages that name them and with the house rules; and the code of the tools."""
+import collections, importlib.machinery, importlib.util, itertools, os, re, shutil, subprocess, sys, time
 
-from office_tools import sources
-from office_tools.office import ROOT, Wrong, needs
+from office_tools.office import ROOT, needs, side_by_side, wrong_if
+
+NOISE = re.compile(r'//[^\n]*|b?"(?:\\.|[^"\\])*"|b?\'(?:\\.[^\'\n]*|[^\'\\\n])\'', re.S)
+TESTS = re.compile(r"#\[cfg\(test\)\]\s*mod tests \{|\Z")
+# As `rt fmt` lays a function out, its clauses are deeper than it is, and its body begins and ends just there.
+FUNCTION = re.compile(r"^( *)(pub |pub\(\w+\) )?(?:const )?(fn (\w+)[^{]*?(?:^ *(?:ensures|requires)\b.*?(?=^\1\{|;$(?!\n\1 )))?)"
+                      r" *(?:;|(\{\}|\{\n.*?^\1\}))$", re.M | re.S)
+CLAUSE = re.compile(r"^ *(ensures|requires)\b\*? *(\w*)\*? *\{\W*(\w*)", re.M)
+BLOCK = re.compile(r"^ *(pub |pub\(\w+\) )?((impl|trait)\b[^{};]*)\{", re.M)
+# Words of specs/ that say what several clauses say, each with its record, whose fields those are.
+WORDS = {"Migrates": "Migrates", "CopiesTo": "CopiesTo", "Loads": "LoadsAt", "Alters": "Alters"}
+
+def owners_of(head):
+    """Returns the types whose functions are in the block that begins so: of a trait's impl, type and trait."""
+    head = head.replace("->", "")
+    while (plain := re.sub(r"<[^<>]*>", "", head)) != head:
+        head = plain
+    head = head.split(":")[0] if head.startswith("trait") else head
+    parts = [re.findall(r"\w+", part) for part in re.split(r"\bfor\b", head.split(" where ")[0])]
+    return [words[-1] for words in reversed(parts) if words]
+
+class Function:
+    """A function of a crate: its file below the crate's folder, where it begins and ends there, the types and the trait of its block.
+
+    It has the comment above it, the names of its clauses, and the first word of each of `ensures` by its name. Its head, from `fn` to the
+    contract, and its body are without comments and literals.
+    """
+
+    def __init__(self, path, source, found):
+        blanks, public, told, self.name, body = found.groups()
+        self.path, self.start, self.end, self.body = path, found.start(3), found.end(), body or ""
+        # The last block that begins before it is its own, unless it is in none.
+        shown, block, kind = BLOCK.findall(found.string, 0, found.start())[-1] if blanks else ("", "", "")
+        self.owners, self.in_trait_impl = owners_of(block), kind == "impl" and " for " in block
+        self.public = "pub " in (public, shown if kind == "trait" else "")
+        self.title = f"{self.owners[0]}::{self.name}" if self.owners else self.name
+        self.head, clauses = re.split(r"^ *(?:ensures|requires)\b", told, flags=re.M)[0], CLAUSE.findall(told)
+        self.ensures, self.requires = ([name for kind, name, _ in clauses if kind == own] for own in ("ensures", "requires"))
+        self.words = {name: word for kind, name, word in clauses if kind == "ensures"}
+        self.module, self.line = path[4:].removesuffix(".rt").split("/"), source.count("\n", 0, self.start) + 1
+        # The comment right above it, past its attributes.
+        above = itertools.takewhile(lambda it: it.startswith(("//", "#[")), map(str.strip, reversed(source.split("\n")[:self.line - 1])))
+        self.comment = "\n".join(reversed([it.lstrip("/").strip() for it in above if it.startswith("//")]))
+
+class Crate:
+    """A crate's sources: texts by path below its folder, functions, the fields of each record of specs/, and wrong bodies by name."""
+
+    def __init__(self, folder):
+        self.name, self.folder = folder.name, folder
+        self.texts = {str(path.relative_to(folder)): path.read_text() for path in sorted((folder / "src").rglob("*.rt"))}
+        self.functions = []
+        for path, source in self.texts.items():
+            # Comments and literals are blanked, each in its length, and `mod tests` at the end is left out.
+            text = NOISE.sub(lambda found: re.sub(r"[^\n]", " ", found[0]), source)
+            self.functions += [Function(path, source, found) for found in FUNCTION.finditer(text[:TESTS.search(text).start()])]
+        specs = "\n".join(path.read_text() for path in sorted(folder.glob("specs/**/*.antt"))) + "\n"
+        records = re.findall(r"^( *)pub record (\w+)[^\n]* where\n((?:\1  [^\n]*\n)+)", specs, re.M)
+        self.records = {name: re.findall(rf"^{blanks}  pub (\w+) :", lines, re.M) for blanks, name, lines in records}
+        edits = (path for part in ("must-fail", "wrong-bodies") for path in sorted(folder.glob(part + "/*.edit")))
+        self.edits = {path.stem: path.read_text() for path in edits}
+        declared = "\n".join(self.texts.values())
+        self.used = set(re.findall(r"\w+", " ".join(re.findall(r"^pub use ([^;]*);", declared, re.M))))
+        self.open_modules = {"lib", *re.findall(r"^pub mod (\w+);", declared, re.M)}
+
+    def is_shown(self, function):
+        """Returns whether a function is public, and its module is open or its type named by a `pub use`."""
+        is_open = self.open_modules.issuperset(function.module)
+        return "src/lib.rt" in self.texts and function.public and (is_open or (function.owners or [function.name])[0] in self.used)
+
+    def text_at(self, path):
+        return (self.folder / path).read_text() if (self.folder / path).is_file() else ""
+
+    def functions_of(self, edit):
+        found = []
+        for path, old, _ in changes_of(edit):
+            place = self.text_at(path).find(old)
+            found += [f for f in self.functions if f.path == path and f.start <= place < f.end][-1:]
+        return list(dict.fromkeys(found))
+
+def changes_of(edit):
+    """Returns [(file, old text, new text)] of an edit."""
+    parts = re.split(r"^file: *(.*?) *\n", edit, flags=re.M)[1:]
+    changes = ((path, re.findall(r"^old:.?(.*)\n(?:new:.?(.*))?", lines, re.M)) for path, lines in zip(parts[::2], parts[1::2]))
+    return [(path, old, new) for path, found in changes for old, new in found]
+
+def crates():
+    """Returns all crates in the order of crates.txt, lowest first."""
+    names = re.findall(r"^([^#:\n]*):", (ROOT / "crates.txt").read_text(), re.M)
+    found = [Crate(ROOT / "crates" / name.strip()) for name in names]
+    records = {name: fields for crate in found for name, fields in crate.records.items()}
+    for function in (function for crate in found for function in crate.functions):
+        # The fields of a record stand in the place of a clause that says no more than that record.
+        function.ensures = [part for name in function.ensures for part in records.get(WORDS.get(function.words.get(name)), [name])]
+    return found
 
 # What shellcheck doesn't report: words in single quotes that look like the shell's own, since they are another program's.
 QUOTED = "SC2016,SC1003"
 PARAMETERS, LINES, CHARACTERS = 5, 40, 200
+# The functions that are larger; and a line that is two characters too long since something in it was renamed.
 LARGE = {
     "checker": "flaw_remedy", "count": "figured lost_from", "sheet": "style write_page write_row", "tables": "select_text",
-    "desk": "mend_open replay run send_all run_script run_steps tell_numbered",
-    "count_office": "follow_words fill fill_mended fill_open finish finish_mended mend_served dispatch_order perform_locked", "store_tests": "are_refused give",
+    "desk": "mend_open replay run send_all run_script run_steps tell_numbered", "store_tests": "are_refused give",
+    "count_office": "fill fill_mended fill_open finish finish_mended mend_served dispatch_order perform_locked",
+    "wire": "proofs/answering/answer_reading/Answers.antt:35",
 }
-# Two characters too long since something in it was renamed.
-LONG = {"wire": "proofs/answering/answer_reading/Answers.antt:35"}
 PARAMETER, FIXED = re.compile(r"[(,]\s*(?:mut )?(?!alloc:)(?:\([^()]*\)|[a-z_]\w*):(?!:)"), re.compile(r'.*"[^"]{60,}')
 BOUND = re.compile(r"\b(?:calls? itself|recurses)\b[^.]*\bat most\b", re.I)
 
-def calls_itself(function):
-    before = r"\b(?:self\.|Self::)" if function.owners else r"(?<![\w.:])"
-    return not function.in_trait_impl and bool(re.search(rf"{before}{function.name}(?:::<[^;{{}}()]*>)?\(", function.body))
-
 def broken_rules():
-    for crate in sources.crates():
-        unbound = (f for f in crate.functions if calls_itself(f) and not BOUND.search(" ".join(f.comment.split())))
-        yield from (f"crates/{crate.name}/{f.path}:{f.line}: {f.title} calls itself: no bound is stated" for f in unbound)
+    for crate in crates():
+        for f in crate.functions:
+            before = r"\b(?:self\.|Self::)" if f.owners else r"(?<![\w.:])"
+            calls_itself = not f.in_trait_impl and re.search(rf"{before}{f.name}(?:::<[^;{{}}()]*>)?\(", f.body)
+            if calls_itself and not BOUND.search(" ".join(f.comment.split())):
+                yield f"crates/{crate.name}/{f.path}:{f.line}: {f.title} calls itself: no bound is stated"
         large = {f.name for f in crate.functions if len(PARAMETER.findall(f.head)) > PARAMETERS or f.body.count("\n") - 1 > LINES}
-        for name in sorted(large ^ set(LARGE.get(crate.name, "").split())):
-            yield f"{crate.name}: {name} has more than {PARAMETERS} parameters or {LINES} lines, and isn't among LARGE; or needn't be"
         written = ("src/**/*.rt", "specs/**/*.antt", "proofs/**/*.antt")
         paths = [] if crate.name.endswith("_tests") else [path for part in written for path in crate.folder.glob(part)]
         lines = ((f"{path.relative_to(crate.folder)}:{number}", line) for path in paths for number, line in enumerate(path.open(), 1))
-        long = {place for place, line in lines if len(line.rstrip("\n")) > CHARACTERS and not FIXED.match(line)}
-        for place in sorted(long ^ set(LONG.get(crate.name, "").split())):
-            yield f"{crate.name}: {place} has more than {CHARACTERS} characters, and isn't among LONG; or needn't be"
+        large |= {place for place, line in lines if len(line.rstrip("\n")) > CHARACTERS and not FIXED.match(line)}
+        most = f"{PARAMETERS} parameters, {LINES} lines or {CHARACTERS} characters"
+        yield from (f"{crate.name}: {place} has more than {most}, and isn't among LARGE; or needn't be"
+                    for place in sorted(large ^ set(LARGE.get(crate.name, "").split())))
 
 def check_code():
     """Reads all code of this repository for what a linter sees, and for the house rules of CONTRIBUTING.md on sizes.
 
     pyflakes reads all Python, and shellcheck all shell; they find nothing. A function has at most five parameters besides itself and the
     allocator, and 40 lines; those that have more are named here, and one that needn't be is reported too. A line has at most 200
-    characters, but for texts that are fixed and LONG. The comment above a function that calls itself by its own name states a bound, as
+    characters, but for texts that are fixed. The comment above a function that calls itself by its own name states a bound, as
     `Recurses at most 30 times.`, which is one of the program's own; methods of a trait, and functions that call each other, aren't seen.
     """
     needs("pyflakes3", "shellcheck")
@@ -64,7 +144,6 @@ def check_code():
     return list(broken_rules()) or max(run.returncode for run in checked)
 
 HAND, MESSAGES = [ROOT / f"docs/engineering/{name}.md" for name in ("proofs", "limits")], ROOT / "docs/officer/when-it-says-no.md"
-MADE = ROOT / "out/proofs-table.md"
 PAGES = ("officer/rules", "formats/orders", "formats/sheets", "formats/ballots", "formats/records", "officer/glossary")
 DEFINED = [ROOT / f"docs/{name}.md" for name in PAGES]
 # What the program prints before a number, the file of definitions, and the definitions of the number and of the text after it.
@@ -79,38 +158,27 @@ NUMBERED = [
 OF = re.compile(r"((?:`\w+`(?:, | and ))*`\w+`) of ((?:`[\w:]+`(?:, | and ))*`[\w:]+`)")
 HEAD = """# Every public function and its clauses
 
-`tools/check proofs --write` makes this page from the sources; it isn't committed. Each function is proved safe, to return, and to meet \
-its clauses, which are above its body in the sources, with its documentation, of which the first sentence is shown. A *wrong body* is an \
-edit in `must-fail/` or `wrong-bodies/` of the crate that the contract of its own crate refuses. Functions that aren't public, and \
-definitions, are listed only if an edit changes them. There are {public} public functions with {clauses} clauses, and {edits} wrong bodies.
+Made by `tools/check proofs --write`. Each function is proved safe, to return, and to meet its clauses, which are above its body in the \
+sources. A *wrong body* is an edit that the contract of its own crate refuses. There are {} public functions with {} clauses, and {} edits.
 """
+QUOTES = re.compile(r"`([^`]*)`")
 
 def listed(names):
     return ", ".join(f"`{name}`" if name else "one without a name" for name in names) or "–"
 
 def table_of(crate):
-    """Returns the table of a crate's functions and wrong bodies, with its heading; nothing if there is no row."""
-    edits, rows = collections.defaultdict(list), []
+    """Yields the table of a crate's functions and wrong bodies, with its heading; nothing if there is no row."""
+    edits, head = collections.defaultdict(list), "| function | what it does | clauses | wrong bodies refused |\n|---|---|---|---|"
     for name, edit in crate.edits.items():
-        for target in crate.targets_of(edit):
+        for target in crate.functions_of(edit) or [path for path, *_ in changes_of(edit)][:1]:
             edits[target].append(name)
-    for f in [f for f in crate.functions if crate.is_shown(f) or f in edits]:
+    shown = [f for f in crate.functions if crate.is_shown(f) or f in edits]
+    yield from [f"\n## `{crate.name}`\n", head] * bool(shown or edits)
+    for f in shown:
         sentence = " ".join(re.split(r"(?<=[^.]\.)\s|\n\s*\n", f.comment.strip() + " ")[0].replace("|", "\\|").split()).rstrip(".")
         where = "" if crate.is_shown(f) else f", within `{f.path}`"
-        rows.append(f"| `{f.title}`{where} | {sentence or '–'} | {listed(f.ensures)} | {listed(edits.pop(f, []))} |")
-    rows += [f"| `{name or 'a line'}`, within `{path}` | – | – | {listed(names)} |" for (path, name), names in edits.items()]
-    head = [f"\n## `{crate.name}`\n", "| function | what it does | clauses | wrong bodies refused |", "|---|---|---|---|"]
-    return head + rows if rows else []
-
-def write_table(crates):
-    shown = [function for crate in crates for function in crate.functions if crate.is_shown(function)]
-    clauses, edits = sum(len(function.ensures) for function in shown), sum(len(crate.edits) for crate in crates)
-    lines = [HEAD.rstrip().format(public=len(shown), clauses=clauses, edits=edits), *(line for crate in crates for line in table_of(crate))]
-    MADE.parent.mkdir(exist_ok=True)
-    MADE.write_text("\n".join(lines) + "\n", encoding="utf-8")
-
-def quoted(text):
-    return re.findall(r"`([^`]*)`", text)
+        yield f"| `{f.title}`{where} | {sentence or '–'} | {listed(f.ensures)} | {listed(edits.pop(f, []))} |"
+    yield from (f"| in `{path}` | – | – | {listed(names)} |" for path, names in edits.items())
 
 def clauses_of(crates):
     """Returns {name of a function, with its type and without: its clauses}"""
@@ -128,26 +196,16 @@ def missing_of_row(crates, name, where):
     # The colons of a name in backticks part nothing.
     for part in re.sub("`[^`]*`", lambda found: found[0].replace("::", "%"), where).split(";"):
         functions, _, names = part.partition(":")
-        for function in (function.replace("%", "::") for function in quoted(functions)):
+        for function in (function.replace("%", "::") for function in QUOTES.findall(functions)):
             if function not in clauses:
                 yield f"no function {function} in {name}"
-            yield from (f"no clause {it} of {function} in {name}" for it in quoted(names) if it not in clauses.get(function, [it]))
-
-def missing_messages():
-    headings, wanted = re.findall(r"^### `(.*)`$", MESSAGES.read_text(), re.M), []
-    for front, file, number, text in NUMBERED:
-        definitions = (ROOT / "crates" / file).read_text()
-        texts = dict(re.findall(rf'^{text} \(?(\w+)[^=\n]*= codes "([^"]*)"$', definitions, re.M))
-        wanted += [front.format(own) + texts[name] for name, own in re.findall(rf"^{number} \(?(\w+)[^=\n]*= (\d+)$", definitions, re.M)]
-    found = [[heading for heading in headings if heading == it or it[-1] == " " and heading.startswith(it)] for it in wanted]
-    yield from (f"no heading {message}" for message, own in zip(wanted, found) if len(own) != 1)
-    yield from (f"no message of the sources is {heading}" for heading in headings if [heading] not in found)
+            yield from (f"no clause {it} of {function} in {name}" for it in QUOTES.findall(names) if it not in clauses.get(function, [it]))
 
 def missing_of_text(line, clauses, words):
     for names, functions in OF.findall(line):
-        for function in quoted(functions):
-            yield from (f"no clause {clause} of {function}" for clause in quoted(names) if clause not in clauses.get(function, [clause]))
-    for name in quoted(line):
+        for function in QUOTES.findall(functions):
+            yield from (f"no clause {it} of {function}" for it in QUOTES.findall(names) if it not in clauses.get(function, [it]))
+    for name in QUOTES.findall(line):
         parts = {name} if name.startswith("Rattle.") else set(re.findall(r"\w+", name))
         if re.fullmatch(r"[\w:.]+", name) and not parts <= words:
             yield f"no {name} in the sources"
@@ -161,7 +219,7 @@ def faults_of(crates):
             text, name = path.read_text(), ".".join(["Rattle", crate.name, *path.relative_to(crate.folder).with_suffix("").parts])
             defined = re.findall(r"^(?:\w+ )?pub (?:\w+ )?(\w+)", text, re.M)
             words.update(re.findall(r"\w+", text), [name], (f"{name}.{own}" for own in defined))
-        for name, path, old in ((name, *change[:2]) for name, edit in crate.edits.items() for change in sources.changes_of(edit)):
+        for name, path, old in ((name, *change[:2]) for name, edit in crate.edits.items() for change in changes_of(edit)):
             if (times := crate.text_at(path).count(old)) != 1:
                 yield f"{crate.name}/{name}.edit: its old text stands {times} times in {path}"
     for page in [*HAND, *DEFINED]:
@@ -179,20 +237,28 @@ def check_proofs(*, write=False):
     Each row of a table | crate | promise | where | of docs/engineering/proofs.md and limits.md names in its last column functions of the
     crate and, after a colon, clauses of each, in parts like `Office::run`: `headline`, `answers`; `order`: `ok`. In their text, and in
     lines about definitions of PAGES, `opened`, `told` of `Store::open_from` names clauses of a function, and each word in backticks is one
-    of the sources. Each refusal and fault has its heading in docs/officer/when-it-says-no.md. Each edit's old text is just once in its
-    file. --write makes out/proofs-table.md.
+    of the sources. Each refusal and fault has its heading in docs/officer/when-it-says-no.md, each edit's old text is once in its file.
+    --write makes out/proofs-table.md, a table of all functions and clauses.
     """
-    crates = sources.crates()
+    found = crates()
     if write:
-        write_table(crates)
-    return [*faults_of(crates), *(f"{MESSAGES.name}: {fault}" for fault in missing_messages())]
+        shown = [function for crate in found for function in crate.functions if crate.is_shown(function)]
+        head = HEAD.format(len(shown), sum(len(it.ensures) for it in shown), sum(len(crate.edits) for crate in found))
+        (ROOT / "out").mkdir(exist_ok=True)
+        (ROOT / "out/proofs-table.md").write_text("\n".join([head, *(line for it in found for line in table_of(it)), ""]), "utf-8")
+    yield from faults_of(found)
+    headings, wanted = re.findall(r"^### `(.*)`$", MESSAGES.read_text(), re.M), []
+    for front, file, number, text in NUMBERED:
+        definitions = (ROOT / "crates" / file).read_text()
+        texts = dict(re.findall(rf'^{text} \(?(\w+)[^=\n]*= codes "([^"]*)"$', definitions, re.M))
+        wanted += [front.format(own) + texts[name] for name, own in re.findall(rf"^{number} \(?(\w+)[^=\n]*= (\d+)$", definitions, re.M)]
+    found = [[heading for heading in headings if heading == it or it[-1] == " " and heading.startswith(it)] for it in wanted]
+    yield from (f"{MESSAGES.name}: no heading {message}" for message, own in zip(wanted, found) if len(own) != 1)
+    yield from (f"{MESSAGES.name}: no message of the sources is {heading}" for heading in headings if [heading] not in found)
 
 # What a check may take, the crates in which the functions to prove are most of the crate, and the others that take longest.
-MEMORY = 5 << 30
-DEAREST = ("count_office", "desk", "office", "store")
-LONGEST = ("wire", "server")
-HIDDEN = re.compile(r"no proof: it calls .* not proved$")
-REACHED = re.compile(r"^only=\d+ proved=\d+", re.M)
+MEMORY, DEAREST, LONGEST = 5 << 30, ("count_office", "desk", "office", "store"), ("wire", "server")
+HIDDEN, REACHED = re.compile(r"no proof: it calls .* not proved$"), re.compile(r"^only=\d+ proved=\d+", re.M)
 # A text that can't be read shows nothing of a contract, nor does a proof that names what the edit took away.
 UNREAD = re.compile(r"^\S*(?:src|specs)/\S+: error: (?!`)", re.M)
 GONE = re.compile(r"^(?:\./)?proofs/(\S+)/\w+\.antt:.*(?:has no field|is not in scope|has no `|was not admitted)", re.M)
@@ -207,17 +273,6 @@ def kit():
     if not all(hasattr(rt, name) for name in ("checked", "free")) or not hasattr(rt.rtlib, "crates_below"):
         sys.exit("this kit's rt has no part that checks an edited copy: put the edits into must-fail/, and try them by rt must-fail")
     return rt
-
-def edited(folder, edits):
-    """Returns {path below a crate: its text with all edits in it}."""
-    texts = {}
-    for name, edit in edits.items():
-        for path, old, new in sources.changes_of(edit):
-            texts.setdefault(path, (folder / path).read_text())
-            if texts[path].count(old) != 1:
-                sys.exit(f"{folder.name}/{name}: its old text is in {path} {texts[path].count(old)} times, and not once")
-            texts[path] = texts[path].replace(old, new)
-    return texts
 
 def path_of(function):
     """Returns the end of a function's name in a check. A method stands below its type, or its type and trait in one, wherever that is."""
@@ -238,14 +293,17 @@ def verdict(said, crate, edit):
     if all(line == "proved" or HIDDEN.match(line) for line in lines):
         return "hidden"
     gone = any(folder.startswith("/".join(f.module)) and folder.endswith("/" + f.name) for folder in GONE.findall(said) for f in functions)
-    return "refused" + (", only because a proof names what it takes away" if gone else "")
+    return "refused" + ", only because a proof names what it takes away" * gone
 
 def tried(rt, crate, edits):
     """Tries edits of a crate, all at once. Returns {its name: the outcome}."""
     changed = {path_of(function) for edit in edits.values() for function in crate.functions_of(edit)}
     built = next(it for it in rt.rtlib.crates_below(os.getcwd()) if it.name == crate.name)
-    flags = ["--jobs", "1", *(word for path in sorted(changed) for word in ("--only", path))]
-    said = rt.checked(built, edited(crate.folder, edits), flags, None).stdout
+    flags, texts = ["--jobs", "1", *(word for path in sorted(changed) for word in ("--only", path))], {}
+    # `tools/check proofs` sees that each old text is there once.
+    for path, old, new in (change for edit in edits.values() for change in changes_of(edit)):
+        texts[path] = texts.get(path, crate.text_at(path)).replace(old, new)
+    said = rt.checked(built, texts, flags, None).stdout
     found = {name: verdict(said, crate, edit) for name, edit in edits.items()}
     if any(result != "hidden" and not result.startswith("refused") for result in found.values()):
         print(said, end="", file=sys.stderr)
@@ -268,8 +326,7 @@ def check_wrong_bodies(*crates, built=False, gate=False, minutes: int = None):
 
     All of a crate's wrong-bodies/ are put into one copy of it, and one check proves the functions that they change: a function is proved by
     its own body and the contracts of what it calls, so each of them has to be refused by itself. If one calls another, the check says no
-    more than that it calls what isn't proved: then those are tried once more without the others. Two that change one function are tried
-    apart.
+    more than that it calls what isn't proved: then it is tried once more without the other. Two that change one function are tried apart.
 
     A crate and those below it are built first if they aren't, and so the crate is known to be proved as it is. --built takes the crates as
     `rt ci` leaves them in out/, and tries several side by side. --gate does this with all crates but count_office, desk, office and store,
@@ -279,11 +336,11 @@ def check_wrong_bodies(*crates, built=False, gate=False, minutes: int = None):
     end = time.monotonic() + 60 * minutes if minutes is not None else float("inf")
     os.chdir(ROOT)
     edits = collections.defaultdict(dict)
-    for path in sorted(Path().glob("crates/*/wrong-bodies/*.edit")):
-        if path.parts[1] in crates if crates else not (gate and path.parts[1] in DEAREST):
-            edits[path.parts[1]][path.stem] = path.read_text()
-    if empty := set(crates) - set(edits):
-        raise Wrong(f"no wrong bodies in {', '.join(sorted(empty))}")
+    for path in sorted(ROOT.glob("crates/*/wrong-bodies/*.edit")):
+        name = path.parts[-3]
+        if name in crates if crates else not (gate and name in DEAREST):
+            edits[name][path.stem] = path.read_text()
+    wrong_if(empty := set(crates) - set(edits), f"no wrong bodies in {empty}")
     rt, counts, left_out = kit(), [0, 0], []
     rt.rtlib.guarded()  # it handles a signal, which only the first thread may
 
@@ -293,16 +350,15 @@ def check_wrong_bodies(*crates, built=False, gate=False, minutes: int = None):
         if not (built or gate):
             quiet = {"stdout": subprocess.DEVNULL, "stderr": subprocess.DEVNULL}
             subprocess.run(["rt", "lib", "--jobs", "1"], cwd=ROOT / "crates" / name, check=True, **quiet)
-        return name, results(rt, sources.Crate(ROOT / "crates" / name), edits[name])
+        return name, results(rt, Crate(ROOT / "crates" / name), edits[name])
 
     # One crate a processor, as far as memory lets.
     lanes = max(1, min(len(os.sched_getaffinity(0)), rt.free() // MEMORY)) if built or gate else 1
-    with ThreadPoolExecutor(lanes) as pool:
-        for name, found in pool.map(try_crate, sorted(edits, key=lambda it: (it not in DEAREST, it not in LONGEST, it))):
-            left_out += [name] * (not found)
-            for edit, result in found.items():
-                print(f"{name}/{edit}: {result}", flush=True)
-                counts = [counts[0] + result.startswith("refused"), counts[1] + 1]
+    for name, found in side_by_side(try_crate, sorted(edits, key=lambda it: (it not in DEAREST, it not in LONGEST, it)), lanes):
+        left_out += [name] * (not found)
+        for edit, result in found.items():
+            print(f"{name}/{edit}: {result}", flush=True)
+            counts = [counts[0] + result.startswith("refused"), counts[1] + 1]
     print(f"{counts[0]} of {counts[1]} refused")
     if left_out:
         print(f"not tried, since the {minutes} minutes were over: {', '.join(left_out)}")

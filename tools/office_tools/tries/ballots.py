@@ -1,28 +1,20 @@
 """Ballots, sheets and cast-vote records, of the program and of anyone, compared with a count apart from the program."""
-import collections
-import itertools
-import os
-import random
-import re
-import subprocess
-import sys
-from pathlib import Path
+import collections, contextlib, itertools, os, random, re, sys
 
-from office_tools.made_up import Ward, damaged, judged, sealed_office
-from office_tools.office import Table, Wrong, checker, temporary_folder, timed, wrong_if
-from office_tools.recount import Ballots, Count, Unreadable, blt, written
+from office_tools.election import Ward, damaged, judged, sealed_office
+from office_tools.office import Table, about, checker, timed, wrong_if
+from office_tools.recount import Ballots, Count, Unreadable, blt, counts, require, written
 
 # Characters that could steer a terminal: a question mark is shown for each.
 STEERS = re.compile("[\0-\x09\x0b-\x1f\x7f-\x9f\u061c\u200e\u200f\u202a-\u202e\u2066-\u2069]")
 
 def compare(what, told, wanted):
-    """Compares what the program prints with what it should, line by line."""
     for place, (line, right) in enumerate(itertools.zip_longest(told.split(b"\n"), wanted.split(b"\n")), 1):
         wrong_if(line != right, f"{what}, line {place}: told is {line}, wanted {right}")
 
-def compare_counted(content, words, lots, count, wanted):
-    """Counts a file without an office, with these lots added, and compares each text by its option, the line about a lot and the status."""
-    line, added = b"0", [word for stage, drawn in lots.items() for word in ("--lot", f"{stage}:{drawn}")]
+def compare_counted(content, words, count, wanted):
+    """Counts a file without an office, with a count's lots, and compares each text by its option, the line about a lot and the status."""
+    line, added = b"0", [word for stage, drawn in count.ballots.lots.items() for word in ("--lot", f"{stage}:{drawn}")]
     if count.waits:
         tied = ", ".join(f"{number} {count.ballots.names[number]}" for number in count.waits[1])
         line = STEERS.sub("?", f"lot needed at stage {count.waits[0]} among {tied}").encode() + b"\n1"
@@ -33,45 +25,31 @@ def compare_counted(content, words, lots, count, wanted):
 
 def play(ward, folder):
     """Plays a ward to its declaration, and compares all that the program prints on the way. Returns its count."""
-    number, office, lots, is_over = ward.number, sealed_office(folder, ward), {}, False
-    bundles, rejected = ward.judged()
+    number, office, (bundles, rejected) = ward.number, sealed_office(folder, ward), ward.judged()
 
     def told(*words):
         return office.do(*words).encode("utf-8", "surrogateescape")
     first = told("ballots", number)
-    while not is_over:
+    while True:
         count = Count(Ballots(ballots := told("ballots", number)))
         papers = [(bundle.papers, bundle.preferences) for bundle in sorted(count.ballots.bundles)]
         compare("ballots, sorted", written([count.ballots.rejected, *papers]), written([rejected, *bundles]))
         wrong_if(count.lots, f"ballots: no stage takes these lots: {count.lots}")
-        is_over, (stage, tied) = not count.waits, count.waits or (0, [])
+        stage, tied = count.waits or (0, [])
         last = f"lot needed at stage {stage} among {', '.join(map(str, tied))}" if tied else "count finished"
         compare("count", told("count", number, "--id", f"count-to-{stage}").splitlines()[-1], last.encode())
         compare("sheet", told("sheet", number), count.sheet())
-        if is_over:
+        if not tied:
             told("declare", number, "--id", "d")
             compare("result", told("result", number), count.declaration())
-        texts = {"": count.sheet(), "--declaration": is_over * count.declaration(), "--table": told("table", number), "--ballots": ballots,
-                 "--page --title Spring": told("page", number, "--title", "Spring")}
-        compare_counted(first, ["--count", "-"], lots, count, texts)
-        if tied:
-            lots[stage] = ward.chance.choice(tied)
-            told("lot", number, stage, lots[stage], "--id", f"l{stage}")
-    return count
+        texts = {"": count.sheet(), "--declaration": b"" if tied else count.declaration(), "--table": told("table", number),
+                 "--ballots": ballots, "--page --title Spring": told("page", number, "--title", "Spring")}
+        compare_counted(first, ["--count", "-"], count, texts)
+        if not tied:
+            return count
+        told("lot", number, stage, ward.chance.choice(tied), "--id", f"l{stage}")
 
-def play_wards(wards, seed):
-    totals = collections.Counter()
-    for place in range(1, wards + 1):
-        ward = Ward(random.Random(f"{seed} {place}"))
-        with temporary_folder() as folder:
-            try:
-                count = play(ward, folder)
-            except Wrong as error:
-                raise Wrong(f"seed {seed}, ward {place}: {error}") from error
-        totals.update({"contested": ward.is_contested, "stages compared": len(count.stages), "lots drawn": len(count.ballots.lots)})
-    Table(f"Made-up wards, seed {seed}", wards).rows(totals)
-
-def try_recount(ballots: Path = None, *, wards=0, seed=1):
+def try_recount(room, ballots="", *, wards=0, seed=1):
     """Counts the ballots of a file anew, apart from the program; or compares made-up wards that the program counts with its own count.
 
     BALLOTS is what the order `ballots` prints, or another program's BLT file: without a comment `# Ward N` the ward is 1, and without `#
@@ -83,12 +61,16 @@ def try_recount(ballots: Path = None, *, wards=0, seed=1):
     program that needs no office counts the first ballots with the same lots, and must print the office's own texts.
     """
     if wards:
-        return play_wards(wards, seed)
+        totals = collections.Counter()
+        for place in range(1, wards + 1):
+            ward = Ward(random.Random(f"{seed} {place}"))
+            with about(f"seed {seed}, ward {place}"):
+                count = play(ward, room / str(place))
+            totals.update({"contested": ward.is_contested, "stages compared": len(count.stages), "lots drawn": len(count.ballots.lots)})
+        return Table(f"Made-up wards, seed {seed}", wards).rows(totals)
     wrong_if(not ballots, "a file of ballots is needed, or --wards N")
-    try:
-        count = Count(Ballots(ballots.read_bytes()))
-    except (OSError, Unreadable) as error:
-        raise Wrong(f"{ballots}: {error}") from error
+    with about(ballots, OSError), open(ballots, "rb") as file:
+        count = Count(Ballots(file.read()))
     sys.stdout.buffer.write(count.sheet())
     sys.stdout.flush()
     if count.waits:
@@ -103,11 +85,8 @@ NEAR = ["Ward", "Ward N N", "WardN", "Ward-N", "Wards N", "Warden", "the Ward N"
 SIGNS = ["# ", "#", "## ", "#\t", "#: ", "#-", '# "', "#\u00a0", "#\u200b"]
 DAMAGE = [b"\n", b"\r", b"0", b"-", b"#", b'"', b"\\", b"=", b"\0", b"\xff", b"99999999999999999999"]
 EXTREME = {
-    "an empty file": b"",
-    "a word of 20,000,000 digits": b"9" * 20_000_000,
-    "10,000,000 empty lines": b"\n" * 10_000_000,
-    "a name of 20,000,000 bytes that isn't closed": b'1 1\n0\n"' + b"a" * 20_000_000,
-    "5,000,000 comments": b"# Lot\n" * 5_000_000,
+    "an empty file": b"", "a word of 20,000,000 digits": b"9" * 20_000_000, "10,000,000 empty lines": b"\n" * 10_000_000,
+    "a name of 20,000,000 bytes that isn't closed": b'1 1\n0\n"' + b"a" * 20_000_000, "5,000,000 comments": b"# Lot\n" * 5_000_000,
     "a line of 5,000,000 candidates": b"30 1\n1" + b" 1" * 5_000_000 + b" 0\n",
     "5,000,000 shared ranks": b"30 1\n1 1 2=3" + b" 2=3" * 5_000_000 + b"\n",
     "2,000,000 lines of papers without an end": b"2 1\n" + b"1 1 0\n" * 2_000_000,
@@ -125,15 +104,6 @@ def made_up_ballots(chance):
     names = ["withdrawn" if c in gone else chance.choice(NAMES) for c in range(1, highest + 1)]
     rejected = [chance.randint(0, 9) for _ in range(5)]
     return blt(seats, bundles, names, rejected, chance.choice(NAMES), chance.randint(1, 99), gone)
-
-def counted(lines, chance):
-    lines = list(lines)
-    while True:
-        count = Count(Ballots(written(lines)))
-        if not count.waits:
-            return lines, count
-        stage, tied = count.waits
-        lines.append(f"# Lot at stage {stage}: {chance.choice(tied)}")
 
 def as_others_write(lines, chance):
     """Returns the same ballots in other words: lines of papers in another order and parted, remarks, blanks and line ends."""
@@ -176,17 +146,17 @@ def shared(lines, chance):
 
 def as_recounted(lines, chance):
     """Returns ballots with the sheet that the recount makes of them, and what the checker must make of both."""
-    try:
-        lines, count = counted(lines, chance)
-    except Unreadable:
-        count = None
-    if count is None or count.lots:
-        return written(lines), b"", [2], rb"error: (line \d+ of the ballots: |(a|no|the) lot )"
-    return written(lines), count.sheet(), [0], b"the text is the stage sheet "
+    drawn = list(lines)
+    with contextlib.suppress(Unreadable):
+        *_, count = counts(drawn, chance.choice)
+        lines = drawn
+        if not count.lots:
+            return written(lines), count.sheet(), [0], b"the text is the stage sheet "
+    return written(lines), b"", [2], rb"error: (line \d+ of the ballots: |(a|no|the) lot )"
 
 def cases(chance):
     """Yields (what it is, the ballots, the text, the statuses that are right, what is printed) of a made-up ward."""
-    lines, count = counted(made_up_ballots(chance), chance)
+    *_, count = counts(lines := made_up_ballots(chance), chance.choice)
     ballots, sheet, declaration = written(lines), count.sheet(), count.declaration()
     for text, name in ((sheet, b"stage sheet"), (declaration, b"declaration")):
         yield "sheets and declarations", ballots, text, [0], b"the text is the %s that" % name
@@ -211,12 +181,12 @@ def checked(folder, what, ballots, text, right, pattern):
     """Has the checker compare a text with ballots. Returns its status, which must be a right one, as what it prints must match."""
     for name, content in (("ballots", ballots), ("text", text)):
         (folder / name).write_bytes(content)
-    status, out, err = checker("ballots", "text", cwd=folder, stdin=subprocess.DEVNULL)
-    if status not in right or not re.match(pattern, out + err) or STEERS.search((out + err).decode("utf-8", "replace")):
-        raise Wrong(f"{what}: status {status}, {(out + err)[:200]!r} of {ballots[:2000]!r} and {text[:2000]!r}")
+    status, out, err = checker("ballots", "text", cwd=folder)
+    is_wrong = status not in right or not re.match(pattern, out + err) or STEERS.search((out + err).decode("utf-8", "replace"))
+    wrong_if(is_wrong, f"{what}: status {status}, {(out + err)[:200]!r} of {ballots[:2000]!r} and {text[:2000]!r}")
     return status
 
-def try_hostile_ballots(wards=100, seed=1):
+def try_hostile_ballots(room, wards=100, seed=1):
     """Gives the checker ballots and sheets from anyone, and compares what it prints with the count of `tools/try recount`.
 
     - Of the sheet and the declaration of made-up wards it confirms both, and says which of the two it is; so too with ballots as another
@@ -228,15 +198,14 @@ def try_hostile_ballots(wards=100, seed=1):
       Files that no program writes (EXTREME) it doesn't understand, each in about a second.
     """
     runs = collections.defaultdict(collections.Counter)
-    with temporary_folder() as folder:
-        for ward in range(wards):
-            for what, *case in cases(random.Random(f"{seed} {ward}")):
-                runs[what][checked(folder, f"ward {ward}, {what}", *case)] += 1
-        table = Table(f"What the checker is given ({wards} wards, seed {seed})", "runs", "yes", "no", "not understood")
-        for what, found in runs.items():
-            table.row(what, found.total(), *(found[status] for status in (0, 1, 2)))
-        slowest = max(timed(checked, folder, what, content, b"", [2], b"error: ")[1] for what, content in EXTREME.items())
-        table.row(f"files that no program writes, at most {slowest:.1f} s each", len(EXTREME), 0, 0, len(EXTREME))
+    for ward in range(wards):
+        for what, *case in cases(random.Random(f"{seed} {ward}")):
+            runs[what][checked(room, f"ward {ward}, {what}", *case)] += 1
+    table = Table(f"What the checker is given ({wards} wards, seed {seed})", "runs", "yes", "no", "not understood")
+    for what, found in runs.items():
+        table.row(what, found.total(), *(found[status] for status in (0, 1, 2)))
+    slowest = max(timed(checked, room, what, content, b"", [2], b"error: ")[1] for what, content in EXTREME.items())
+    table.row(f"files that no program writes, at most {slowest:.1f} s each", len(EXTREME), 0, 0, len(EXTREME))
 
 VOTERS = ["Ann", "Bob", "Cy, jr.", 'D. "Dee"', "Eve", "Fay # 1", "-x", "Zoë", "G\\H", "<b>I</b>", " J ", "Rankin", "Countess", "Choices"]
 MARKS = [b",", b'"', b"\n", b"\r", b"0", b"99", b"100", b"\xff", b"rank1", b"count", b";", b"Ann", b"31"]
@@ -278,12 +247,7 @@ def made_up_records(chance):
     text = chance.choice(("", "\ufeff")) + end.join(map(",".join, lines)) + chance.choice(("", end))
     return text.encode(), names if is_ranked else []
 
-def require(condition, what):
-    if not condition:
-        raise Unreadable(what)
-
 def fields_in(line):
-    """Returns the fields of a line, without quotation marks."""
     require(re.fullmatch(f"{FIELD}(,{FIELD})*", line), "no fields")
     found = [found[1] for found in re.finditer(f"(?:^|,)({FIELD})", line)]
     return [name[1:-1].replace('""', '"') if name.startswith('"') else name for name in found]
@@ -339,25 +303,21 @@ def read(content, seats, candidates):
 
 def compared(content, seats, candidates, chance):
     """Compares what the program makes of a file with what is read here, lot by lot. Returns what that is."""
-    lines, lots = read(content, seats, candidates), {}
+    lines = read(content, seats, candidates)
     words = ["--count", "-", "--seats", str(seats), "--name", WARD, *(word for name in candidates for word in ("--candidate", name))]
     if isinstance(lines, int):
         status, out, err = checker(*words, input=content)
-        if status != 2 or out or not err.startswith(b"error: line %d of the ballots: " % lines):
-            raise Wrong(f"line {lines} isn't understood: status {status}, {err}, {out[:200]}")
+        is_wrong = status != 2 or out or not err.startswith(b"error: line %d of the ballots: " % lines)
+        wrong_if(is_wrong, f"line {lines} isn't understood: status {status}, {err}, {out[:200]}")
         return "refused"
-    while True:
-        ballots = written(lines + [f"# Lot at stage {stage}: {candidate}" for stage, candidate in sorted(lots.items())])
-        try:
-            count = Count(Ballots(ballots))
-        except Unreadable:
-            if checker(*words, input=content)[0] != 2:
-                raise Wrong("nobody has to be chosen, or there are too many papers") from None
-            return "no contest"
-        compare_counted(content, words, lots, count, {"": count.sheet()} | ({} if count.waits else {"--ballots": ballots}))
-        if not count.waits:
-            return "counted"
-        lots[count.waits[0]] = chance.choice(count.waits[1])
+    try:
+        for count in counts(lines, chance.choice):
+            texts = {"": count.sheet()} | ({} if count.waits else {"--ballots": written(lines)})
+            compare_counted(content, words, count, texts)
+    except Unreadable:
+        wrong_if(checker(*words, input=content)[0] != 2, "nobody has to be chosen, or there are too many papers")
+        return "no contest"
+    return "counted"
 
 def try_hostile_records(wards=1000, seed=1):
     """Gives the program that counts ballots without an office cast-vote records of made-up wards, and files that are no such records.
@@ -371,10 +331,8 @@ def try_hostile_records(wards=1000, seed=1):
         (content, candidates), seats = made_up_records(chance), chance.randint(1, 4)
         form = "a rank" if candidates else "a candidate"
         for what, given in (("", content), (", damaged", damaged(chance, content, 2, 3, MARKS))):
-            try:
+            with about(f"seed {seed}, ward {ward}{what}, {given[:2000]!r}, {candidates}, {seats} seats"):
                 found[form + what, compared(given, seats, candidates, chance)] += 1
-            except Wrong as error:
-                raise Wrong(f"seed {seed}, ward {ward}{what}, {given[:2000]!r}, {candidates}, {seats} seats: {error}") from error
     table = Table(f"Cast-vote records, in each column ({wards} wards, seed {seed})", "counted", "no contest", "refused")
     for what in ("a candidate", "a candidate, damaged", "a rank", "a rank, damaged"):
         table.row(what, *(found[what, came] for came in ("counted", "no contest", "refused")))

@@ -1,19 +1,12 @@
 """Clients that mean harm, are slow, or guess codes, at `serve` and at nginx before it."""
-import contextlib
-import functools
-import random
-import re
-import socket
-import ssl
-import subprocess
-import time
+import contextlib, functools, random, socket, ssl, subprocess, time
 from collections import Counter
 from concurrent.futures import ThreadPoolExecutor
 
 from office_tools.election import CODES, evening_office, ward_orders
 from office_tools.office import (
-    HERE, ROOT, SECONDS, Crowd, Office, Table, Wrong, answer, ask, basic, free_port, is_free, listens, needs, open_many_files,
-    received, request, status, temporary_folder, timed, waited, wrong_if)
+    HERE, ROOT, SECONDS, Office, Table, answer, ask, basic, crowd, ended, expect, free_port, is_free, listens, needs, open_many_files,
+    received, request, side_by_side, status, temporary_folder, timed, waited, wrong_if)
 
 # The work of this clerk is more than sockets take of an answer that nobody reads, if they are small.
 READER, BATCHES, MANY, FEW = 5, 800, 1000, 30
@@ -21,31 +14,18 @@ READER_CODES = {**CODES, READER: "hh3m-7wpn-4kfr"}
 # How long a crowd is there, and how long a good client may wait meanwhile for the whole of its answer, in seconds.
 CROWDED, SLOWEST = 12, 3
 
-def of(clerk, target, body=""):
-    return request(f"/clerks/{clerk}/{target}", f"Authorization: {basic(clerk, READER_CODES[clerk])}", body=body)
+def of(clerk, target="work", *headers, body="", code=""):
+    return request(f"/clerks/{clerk}/{target}", f"Authorization: {basic(clerk, code or READER_CODES[clerk])}", *headers, body=body)
 
-def print_crowds(serving):
-    """Prints a row for each crowd."""
-    heads = "at once", f"came in {CROWDED} seconds", "answers of another", "the slowest, seconds", "memory so far, MB"
-    table, refused = Table("Clients who", *heads), of(9, "batches/99/keying", '{"id":"h1","round":1,"papers":["1,2,","9"]}')
-    ask_well = functools.partial(serving.ask, of(4, ""), shut=True)
-    wrong_if(status(good := ask_well()) != 200, f"the good client gets {good}")
-    for what, count, sends, how in (
-        ("say nothing", MANY, b"", {}),
-        ("half a request, and nothing more", MANY, refused[:-9], {}),
-        ("ask, and go at once", MANY, of(9, "work"), {"goes": True}),
-        ("ask for more than sockets take, and never read it", FEW, of(READER, "work"), {"reads": False}),
-    ):
-        times, ends = [], time.monotonic() + CROWDED
-        with Crowd(serving.port, count, sends, **how) as crowd:
-            while time.monotonic() < ends:
-                text, seconds = timed(ask_well)
-                times.append(seconds)
-                wrong_if(text != good or seconds > SLOWEST, f"beside clients who {what} one gets {text} after {seconds:.1f} seconds")
-                time.sleep(0.05)
-        table.row(what, count, crowd.came, len(times), f"{max(times):.2f}", f"{serving.memory():.0f}")
+# The crowds: what they do, how many they are, what they send, and how.
+CROWDS = [
+    ("say nothing", MANY, b"", {}),
+    ("half a request, and nothing more", MANY, of(9, "batches/99/keying", body='{"id":"h1","round":1,"papers":["1,2,","9"]}')[:-9], {}),
+    ("ask, and go at once", MANY, of(9), {"goes": True}),
+    ("ask for more than sockets take, and never read it", FEW, of(READER), {"reads": False}),
+]
 
-def try_hostile_clients():
+def try_hostile_clients(room):
     """Meets `serve` with a thousand clients at once that mean harm, are slow, or go away, and prints how long another one waits.
 
     One that is disconnected comes again. Meanwhile a good client, with clerk 4's code, gets the same response each time, within three
@@ -53,16 +33,24 @@ def try_hostile_clients():
     the rows that it held, and `serve` has printed nothing. All takes a minute.
     """
     open_many_files()
-    with temporary_folder() as folder:
-        office = Office(folder).begin(ward_orders((12, 2, 4, 9), *((1000 + number, 2, READER, 9) for number in range(BATCHES))))
-        office.write_codes(READER_CODES)
-        rows = office.rows()
-        with office.serve("--codes", "codes.txt") as serving:
-            print_crowds(serving)
-            wrong_if(serving.kill() != (-9, "", "") or office.rows() != rows, "serve printed something, or the rows aren't as before")
+    office = Office(room).begin(ward_orders((12, 2, 4, 9), *((1000 + number, 2, READER, 9) for number in range(BATCHES))))
+    office.write_codes(READER_CODES)
+    rows, heads = office.rows(), ("at once", f"came in {CROWDED} seconds", "answers of another", "the slowest, seconds")
+    with office.serve("--codes", "codes.txt") as serving:
+        table, ask_well = Table("Clients who", *heads, "memory so far, MB"), functools.partial(serving.ask, of(4, ""), shut=True)
+        wrong_if(status(good := ask_well()) != 200, f"the good client gets {good}")
+        for what, count, sends, how in CROWDS:
+            times, ends = [], time.monotonic() + CROWDED
+            with crowd(serving.port, count, sends, **how) as came:
+                while time.monotonic() < ends:
+                    text, seconds = timed(ask_well)
+                    times.append(seconds)
+                    wrong_if(text != good or seconds > SLOWEST, f"beside clients who {what}: {text} after {seconds:.1f} seconds")
+                    time.sleep(0.05)
+            table.row(what, count, len(came), len(times), f"{max(times):.2f}", f"{serving.memory():.0f}")
+        wrong_if(serving.kill() != (-9, "", "") or office.rows() != rows, "serve printed something, or the rows aren't as before")
 
-V4, V6, BOTH = socket.AF_INET, socket.AF_INET6, (HERE, "::1")
-TAKEN = (3, "", "fault 107: socket or output\n")
+BOTH, TAKEN = (HERE, "::1"), (3, "", "fault 107: socket or output\n")
 ASKS, WORK = request("/clerks/4/work", "Host: localhost"), b'{"clerk":4,"work":[]}'
 PATIENCE, FEW_FILES = 10, ["prlimit", "--nofile=64"]
 
@@ -76,24 +64,20 @@ def are_good(port, *hosts):
 def holds(office):
     """Asks at both addresses and by name, and tries to take the port at each address, and at all of them."""
     with office.serve().wait() as serving:
-        for family, host in ((V4, HERE), (V6, "::1"), (V4, ""), (V6, "")):
-            with contextlib.suppress(OSError):
-                socket.create_server((host, serving.port), family=family).close()
-                return False
-        return are_good(serving.port, *BOTH, "localhost")
+        is_taken = any(is_free(serving.port, host) for host in (*BOTH, "", "::"))
+        return not is_taken and are_good(serving.port, *BOTH, "localhost")
 
 def taken(office):
-    """Has another process take the port first, at one address or at all: `serve` ends."""
     found = []
-    for family, host, dual in ((V6, "::1", False), (V4, HERE, False), (V6, "", False), (V4, "", False), (V6, "", True)):
-        port = free_port()
+    for host, dual in (("::1", False), (HERE, False), ("::", False), ("", False), ("::", True)):
+        port, family = free_port(), socket.AF_INET6 if ":" in host else socket.AF_INET
         with socket.create_server((host, port), family=family, dualstack_ipv6=dual):
-            found.append(office.serve(port=port).ended())
+            found.append(ended(office.serve(port=port).process))
     return found == [TAKEN] * 5
 
 def crowded(office, count, **how):
     """Has a crowd of silent connections at each address, and clients at both."""
-    with office.serve(**how).wait() as serving, Crowd(serving.port, count, host=BOTH[0]), Crowd(serving.port, count, host=BOTH[1]):
+    with office.serve(**how).wait() as serving, crowd(serving.port, count, host=BOTH[0]), crowd(serving.port, count, host=BOTH[1]):
         time.sleep(0.5)
         return are_good(serving.port, *BOTH)
 
@@ -101,8 +85,8 @@ def without_ipv6(office, call, error):
     """Has a call for IPv6 fail: the third of its kind."""
     under = ["strace", "-D", "-o", office.folder / "trace", "-e", f"trace={call}", "-e", f"inject={call}:error={error}:when=3"]
     with office.serve(under=under).wait() as serving:
-        is_refused = re.search(r"AF_INET6.*\(INJECTED\)", (office.folder / "trace").read_text())
-        return bool(is_refused) and are_good(serving.port, HERE)
+        is_refused = any("AF_INET6" in line and "(INJECTED)" in line for line in (office.folder / "trace").open())
+        return is_refused and are_good(serving.port, HERE)
 
 # What is tried, and a function of the office. The last two are of a machine that hasn't [::1], and of systemd's RestrictAddressFamilies.
 CASES = {
@@ -114,7 +98,7 @@ CASES = {
     "a program that is kept from IPv6": functools.partial(without_ipv6, call="socket", error="EAFNOSUPPORT"),
 }
 
-def try_both_addresses():
+def try_both_addresses(room):
     """Tries that `serve` holds its port at both loopback addresses, or serves nobody.
 
     A request at 127.0.0.1, at `[::1]` and at `localhost` is answered, and no other process can bind the port meanwhile. If one has the port
@@ -125,9 +109,8 @@ def try_both_addresses():
     needs("strace")
     open_many_files()
     table = Table("What is tried", "Seconds")
-    for what, is_so in list(CASES.items())[0 if is_free(0, "::1") else -1:]:
-        with temporary_folder() as folder:
-            found, seconds = timed(is_so, Office(folder).begin())
+    for number, (what, is_so) in list(enumerate(CASES.items()))[0 if is_free(0, "::1") else -1:]:
+        found, seconds = timed(is_so, Office(room / str(number)).begin())
         wrong_if(not found, f"otherwise than it must be: {what}")
         table.row(what, f"{seconds:.1f}")
 
@@ -135,29 +118,25 @@ MOST, MINUTE, SENDERS, DENIED, BODY = 6000, 60, 4, 1000, 200_000
 # The letters of codes, but for the x of wrong ones; the tellers, and a number that no line of the file has.
 LETTERS, TELLERS, NOBODY = "abcdefghjkmnprstuwy2347", range(1, 41), 999
 
-def with_code(clerk, code, *headers):
-    return request(f"/clerks/{clerk}/work", f"Authorization: {basic(clerk, code)}", *headers)
-
 def shown(said):
     return ", ".join(f"{count} got {one}" for one, count in sorted(said.items()))
 
 def check_limit(told, codes):
     """Checks that from 6,000 wrong codes within a minute on they are answered 429, and the right ones as ever."""
     def guessed(turn):
-        return status(told(with_code(TELLERS[turn % len(TELLERS)], "x" * 14)))
+        return status(told(of(TELLERS[turn % len(TELLERS)], code="x" * 14)))
 
     began = time.monotonic()
-    with ThreadPoolExecutor(SENDERS) as senders:
-        said = Counter(senders.map(guessed, range(MOST)))
+    said = Counter(side_by_side(guessed, range(MOST), SENDERS))
     took = time.monotonic() - began
-    if said != {401: MOST} or took > MINUTE - 5:
-        raise Wrong(f"of {MOST} wrong codes within {took:.0f} seconds {shown(said)}; a slow machine doesn't reach the limit")
+    is_wrong = said != {401: MOST} or took > MINUTE - 5
+    wrong_if(is_wrong, f"of {MOST} wrong codes within {took:.0f} seconds {shown(said)}; a slow machine doesn't reach the limit")
     for clerk in (TELLERS[0], NOBODY):
-        text, without = told(with_code(clerk, "x" * 14)), told(request(f"/clerks/{clerk}/work"))
-        if status(text) != 429 or b"\r\nRetry-After: 60\r\n" not in text or status(without) != 401:
-            raise Wrong(f"clerk {clerk}, after {MOST} wrong codes: {text[:200]}, and without a code {without[:200]}")
-    if (good := Counter(status(told(with_code(clerk, codes[clerk]))) for clerk in TELLERS)) != {200: len(TELLERS)}:
-        raise Wrong(f"tellers, after {MOST} wrong codes: {shown(good)}")
+        text, without = told(of(clerk, code="x" * 14)), told(request(f"/clerks/{clerk}/work"))
+        is_right = status(text) == 429 and b"\r\nRetry-After: 60\r\n" in text and status(without) == 401
+        wrong_if(not is_right, f"clerk {clerk}, after {MOST} wrong codes: {text[:200]}, and without a code {without[:200]}")
+    good = Counter(status(told(of(clerk, code=codes[clerk]))) for clerk in TELLERS)
+    expect(f"tellers, after {MOST} wrong codes", good, {200: len(TELLERS)})
     while guessed(0) == 429 and time.monotonic() < began + 2 * MINUTE:
         time.sleep(0.25)
     lasted = time.monotonic() - began
@@ -192,8 +171,7 @@ def nginx(folder, port):
     tls, page = free_port(), (ROOT / "docs/officer/network.md").read_text(encoding="utf-8")
     text = page.split("```nginx\n")[1].split("# send a browser")[0]
     for old, new in (("443", f"{HERE}:{tls}"), ("/etc/ssl/certs/", ""), ("/etc/ssl/private/", ""), ("192.0.2.", LAN), ("8080", str(port))):
-        if text.count(old) != 1:
-            raise Wrong(f"docs/officer/network.md has another configuration: {old} is in it {text.count(old)} times")
+        wrong_if(text.count(old) != 1, f"docs/officer/network.md has another configuration: {old} is in it {text.count(old)} times")
         text = text.replace(old, new)
     (folder / "nginx.conf").write_text(f"daemon off; pid pid; error_log errors; events {{}} http {{ {ROOMS} {text} }}", encoding="utf-8")
     subprocess.run(CERTIFICATE.split(), cwd=folder, check=True, capture_output=True)
@@ -201,7 +179,7 @@ def nginx(folder, port):
 
     def asked(address, clerk, code):
         line = trusting.wrap_socket(socket.create_connection((HERE, tls), SECONDS, (address, 0)), server_hostname=NAME)
-        return status(answer(line, with_code(clerk, code, f"Host: {NAME}", "Connection: close")))
+        return status(answer(line, of(clerk, "work", f"Host: {NAME}", "Connection: close", code=code)))
     with subprocess.Popen(["nginx", "-p", folder, "-c", folder / "nginx.conf"]) as process:
         try:
             wrong_if(not waited(lambda: listens((HERE, tls)), 10), "nginx doesn't start")
@@ -234,6 +212,6 @@ def try_behind_nginx(*, seconds=180):
             good = sum(pool.map(lambda clerk: answers(asked, clerk, 2, (clerk, codes[clerk])), TELLERS), Counter())
             wrong = guesses.result()
             print(f"Within {seconds} seconds, of wrong codes under forty numbers {shown(wrong)}; of requests of tellers {shown(good)}.")
-            if not {401} <= set(wrong) <= {401, 503} or wrong.total() < 9 * seconds or good[200] < 0.99 * good.total():
-                raise Wrong("tellers aren't let in while an outsider guesses codes; or wrong codes aren't denied, or too few")
-            wrong_if((found := asked(STRANGER, 4, codes[4])) != 403, f"the right code from a machine of another network gets {found}")
+            is_right = {401} <= set(wrong) <= {401, 503} and wrong.total() >= 9 * seconds and good[200] >= 0.99 * good.total()
+            wrong_if(not is_right, "tellers aren't let in while an outsider guesses codes; or wrong codes aren't denied, or too few")
+            expect("the right code from a machine of another network", asked(STRANGER, 4, codes[4]), 403)

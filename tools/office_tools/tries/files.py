@@ -1,41 +1,25 @@
 """The file of an office, damaged, held, shared and taken away; and files that are no office."""
-import contextlib
-import fcntl
-import itertools
-import os
-import random
-import re
-import shlex
-import shutil
-import signal
-import socket
-import sqlite3
-import struct
-import subprocess
-import threading
-import time
-from pathlib import Path
+import contextlib, fcntl, itertools, os, random, re, shlex, shutil, signal, socket, sqlite3, struct, threading, time
+from concurrent.futures import ThreadPoolExecutor
 
-from office_tools import election
-from office_tools.election import COPY, COPYING, ELECTION, END, FILE, READS, REPLAY, REQUESTS, SCRIPTED, Order, offices
-from office_tools.made_up import noise
+from office_tools.election import (
+    COPY, COPYING, ELECTION, END, FILE, READS, REPLAY, REQUESTS, SCRIPTED, Order, make_older, noise, offices)
 from office_tools.office import (
-    LOG, NO_OFFICE, SCRIPT, STORE, TOWN, Crowd, Office, Table, Wrong, ended, listens, needs, open_many_files, program, remove,
-    request, status, temporary_folder, timed, waited, wrong_if)
+    LOG, NO_OFFICE, SCRIPT, SECONDS, STORE, TOWN, Office, Table, Wrong, crowd, ended, expect, listens, needs, open_many_files, program,
+    ran, remove, request, status, timed, waited, wrong_if)
 from office_tools.trials import CALL, NOT_WRITTEN, left, strace
 
 JOURNAL, PAGE, BITS_A_PAGE, FAULT_105, READY = "town.db-journal", 4096, 6, (3, "", NO_OFFICE), (0, "office ready\n", "")
 QUAY, HILL, STATUS, INIT = (Order(line.split()) for line in ("ward 8 1 Quay --id q", "ward 9 2 Hill --id h", "status 7", "init"))
-# Every order, each with words that it understands.
 EVERY = [order.words for order in (*ELECTION, REPLAY, COPYING, *(order for _, order in READS))] + [
     line.split() for line in ("ballots 7", "page 7", "table 7", "index", "migrate", "serve 65000 1")]
 # The longest log that `init` begins before it writes the first page of the file.
 BEGUN, FRAME = 41, 24 + PAGE
 LENGTHS = [0, 1, 31, 32, BEGUN, BEGUN + 1, 55, 56, 511, 512, 567, 568, FRAME + 31, FRAME + 32, 3 * PAGE]
 
-def try_older_office(path: Path):
+def try_older_office(path):
     """Makes the file of an office as an earlier program left it, to bring over: crates/store_tests/src/older/rows.rt holds it as text."""
-    election.make_older(path)
+    make_older(path)
 
 def kinds(town, chance):
     def turned(place):
@@ -79,8 +63,8 @@ def tried(folder, what, town, log=None):
         before, printed = seen(office), office.run(*order.words)
         fault = re.fullmatch(r"fault (\d+): .*\n", printed.err)
         wrong_if(printed.status != (3 if fault else 0), f"{what}: {order.name}: {printed}")
-        if fault and (seen(office) != before or office.run(*order.words).err != printed.err):
-            raise Wrong(f"{what}: {order.name}: a fault, and a file changed, or not the same fault again")
+        is_kept = not fault or seen(office) == before and office.run(*order.words).err == printed.err
+        wrong_if(not is_kept, f"{what}: {order.name}: a fault, and a file changed, or not the same fault again")
         wrong_if(not fault and order is QUAY and not office.rows(), f"{what}: a ward was added, and no office is there")
         found.append(fault[1] if fault else "opens")
     wrong_if(found[0] != found[1], f"{what}: {found}")
@@ -125,9 +109,9 @@ OWNERS = [
 ]
 
 def of_accounts(office, mode=0o600, **owners):
-    for path, owner in ((office.folder / name, owner) for name, owner in owners.items()):
-        os.chown(path, owner, -1)
-        path.chmod(mode)
+    for name, owner in owners.items():
+        os.chown(office.folder / name, owner, -1)
+        os.chmod(office.folder / name, mode)
     return office
 
 def served_once(office, *words):
@@ -152,44 +136,40 @@ def print_foreign(folder, town):
         office.do("codes", "codes.txt", "1-9")
         found = served_once(of_accounts(office, **{"codes.txt": owner}), "--codes", "codes.txt")[0]
         remove(office.folder / (TOWN + "-serve"), office.folder / LOG)
-        if (found, said := served_once(of_accounts(office, **{TOWN: owner}))) != (of_codes, of_db):
-            raise Wrong(f"root serves files of account {owner}: {found!r}, {said!r}")
+        found = found, served_once(of_accounts(office, **{TOWN: owner}))
+        expect(f"root serves files of account {owner}", found, (of_codes, of_db))
     table.row("a file of codes another's, and root's", "refused, and taken")
     table.row("DB another's, and root serves it", "no socket")
 
-def try_hostile_files(seed=7):
+def try_hostile_files(room, seed=7):
     """Gives the program files that are no office, or a damaged one, and prints what it reports.
 
     - *Damaged files.* If the program reports a fault, the files stay byte for byte as they were, and a second report is the same. If the
-      office opens, it adds a ward, and the file is whole. A bit turned in a name, or in what nothing uses, is no damage that rows can
-      show.
+      office opens, it adds a ward, and the file is whole. A bit turned in a name, or in what nothing uses, is damage that no row shows.
     - *A log without its file.* While DB is missing or empty, and something has the name of its log, or of a rollback journal, each order
-      reports fault 105, and touches nothing. Only `init` makes an office there, if its log has no more than 41 bytes: an `init` begins with
-      these.
+      reports fault 105, and touches nothing. Only `init` makes an office there, if the log has at most 41 bytes: an `init` begins so.
     - *Other accounts*, if the tool runs as root. An order doesn't read a log that belongs to another account than DB, but root's, and any
-      if others may write to DB. `serve` refuses another account's codes, and root's `serve` makes no socket for orders next to a DB of
-      another account.
+      if others may write to DB. `serve` refuses another account's codes, and root's makes no socket for orders next to another's DB.
 
     Not an error: the log of another database, put next to the file of an office, is taken for the office's own, and the office is lost.
     """
     columns, chance = ["opens", "101", "102", "103", "105", "106"], random.Random(seed)
-    with temporary_folder() as folder:
-        before = offices(folder)
-        town = (before[END].folder / TOWN).read_bytes()
-        table = Table(f"The file ({len(town) // PAGE} pages, seed {seed})", "files", *columns)
-        for what, files in kinds(town, chance):
-            found = [tried(folder, what, content) for content in files]
-            table.row(what, len(found), *map(found.count, columns))
-        found = [tried(folder, "a log of random bytes", town, noise(chance, length)) for length in LENGTHS]
-        table.row("an office and a log of random bytes", len(found), *map(found.count, columns))
-        # The log of an office that was killed while it served holds what it answered.
-        number, keying = REQUESTS[1]
-        with before[number].serve() as serving:
-            answer = serving.ask(keying.sends)
-        log = (before[number].folder / LOG).read_bytes()
-        wrong_if(status(answer) != 200 or len(log) < 32 + FRAME, f"the office that is killed: {answer}, a log of {len(log)} bytes")
-        print_beside(folder, log, chance)
-        print_foreign(folder, town)
+    before = offices(room)
+    town = (before[END].folder / TOWN).read_bytes()
+    table = Table(f"The file ({len(town) // PAGE} pages, seed {seed})", "files", *columns)
+    for what, files in kinds(town, chance):
+        found = [tried(room, what, content) for content in files]
+        table.row(what, len(found), *map(found.count, columns))
+    found = [tried(room, "a log of random bytes", town, noise(chance, length)) for length in LENGTHS]
+    table.row("an office and a log of random bytes", len(found), *map(found.count, columns))
+    # The log of an office that was killed while it served holds what it answered.
+    number, keying = REQUESTS[1]
+    with before[number].serve() as serving:
+        answer = serving.ask(keying.sends)
+    log = (before[number].folder / LOG).read_bytes()
+    wrong_if(status(answer) != 200 or len(log) < 32 + FRAME, f"the office that is killed: {answer}, a log of {len(log)} bytes")
+    print_beside(room, log, chance)
+    print_foreign(room, town)
 
 KEYINGS, FAULTS, OTHER = 7, ("102", "105", "109", "110"), "other.csv"
 KEYED = [Order([OTHER if word == FILE else word for word in ELECTION[number].words], ELECTION[number].lines) for number in (7, 8)]
@@ -197,13 +177,9 @@ KEYED = [Order([OTHER if word == FILE else word for word in ELECTION[number].wor
 PAIRS = [
     ("two clerks' keyings of a batch", KEYINGS, ELECTION[7], KEYED[1]),
     ("one keying, twice", KEYINGS, ELECTION[7], KEYED[0]),
-    ("two wards", KEYINGS, QUAY, HILL),
-    ("a ward and a status", KEYINGS, QUAY, STATUS),
-    ("two stages of one count", 16, ELECTION[16], ELECTION[17]),
-    ("two `init`", 0, INIT, INIT),
-    ("`init` and a ward", 0, INIT, QUAY),
-    ("a copy and a ward", KEYINGS, COPYING, QUAY),
-    ("two copies at one path", KEYINGS, COPYING, COPYING),
+    ("two wards", KEYINGS, QUAY, HILL), ("a ward and a status", KEYINGS, QUAY, STATUS),
+    ("two stages of one count", 16, ELECTION[16], ELECTION[17]), ("two `init`", 0, INIT, INIT), ("`init` and a ward", 0, INIT, QUAY),
+    ("a copy and a ward", KEYINGS, COPYING, QUAY), ("two copies at one path", KEYINGS, COPYING, COPYING),
     ("a script and a copy", SCRIPTED[0], REPLAY, COPYING),
     ("a script and its first order", SCRIPTED[0], REPLAY, ELECTION[SCRIPTED[0]]),
     ("a copy and `init` at its path", KEYINGS, COPYING, Order(["init"], town=COPY)),
@@ -213,22 +189,22 @@ def kind(printed):
     return printed[2][6:9] if printed[0] == 3 else "answered"
 
 class Pair:
+    """Two orders at an office, and each outcome that is right: what they print, the rows, what that is, and what is given again then.
+
+    They may print and leave what they do one after the other. An `init` that is first may turn the other away, which is given again.
+    """
+
     def __init__(self, folder, office, *orders):
-        self.folder, self.office, self.orders = folder, office, orders
-        self.in_turn = [self.sequence(0, 1), self.sequence(1, 0)]
+        self.folder, self.office, self.orders, self.outcomes = folder, office, orders, []
         self.seconds = timed(orders[0].done, office.copied(folder / "sequence"))[1]
-
-    def sequence(self, *places):
-        """Returns what orders print one after the other, by their places, and the rows after each."""
-        here, printed, found = self.office.copied(self.folder / "sequence"), {}, []
-        for place in places:
-            printed[place] = self.orders[place].done(here)
-            found.append(left(here))
-        return printed, found
-
-    def turned_away(self, last):
-        other = self.orders[1 - last]
-        return (3, "", NO_OFFICE if other.town == TOWN else NOT_WRITTEN + "\n") if other.words == ["init"] else None
+        for one, last in ((0, 1), (1, 0)):
+            here = office.copied(folder / "sequence")
+            first, between, second, after = orders[one].done(here), left(here), orders[last].done(here), left(here)
+            what = next((kind(printed) for printed in (first, second) if printed.status == 3), "both")
+            self.outcomes.append(({one: first, last: second}, after, what, None))
+            if orders[one].words == ["init"]:
+                away = (3, "", NO_OFFICE if orders[one].town == TOWN else NOT_WRITTEN + "\n")
+                self.outcomes.append(({one: first, last: away}, between, kind(away), (orders[last], second, after)))
 
     def tried(self, chance):
         """Returns 'both', or the fault that one printed."""
@@ -236,24 +212,13 @@ class Pair:
         first = self.orders[0].started(here)
         time.sleep(chance.uniform(0, 1.2 * self.seconds))
         second = self.orders[1].started(here)
-        printed, found = {0: ended(first), 1: ended(second)}, left(here)
-        for wanted, (_, after) in self.in_turn:
-            if printed == wanted and found == after:
-                return next((kind(one) for one in printed.values() if one.status == 3), "both")
-        for wanted, (between, after) in self.in_turn:
-            one, last = wanted
-            if printed[one] == wanted[one] and found == between and printed[last] == self.turned_away(last):
-                if (again := self.orders[last].done(here)) != wanted[last] or left(here) != after:
-                    raise Wrong(f"{self.orders[last].words} given again: {again}")
-                return kind(printed[last])
-        raise Wrong(f"{self.orders[0].words}, {self.orders[1].words}: {printed}")
-
-def print_pairs(folder, before, runs, chance):
-    table = Table(f"Two orders at once ({runs} runs each)", "both answered", *(f"one: fault {word}" for word in FAULTS))
-    for what, number, *orders in PAIRS:
-        pair = Pair(folder, before[number], *orders)
-        found = [pair.tried(chance) for _ in range(runs)]
-        table.row(what, *map(found.count, ("both", *FAULTS)))
+        found = {0: ended(first), 1: ended(second)}, left(here)
+        what, again = next((outcome[2:] for outcome in self.outcomes if outcome[:2] == found), ("", None))
+        wrong_if(not what, f"{self.orders[0].words}, {self.orders[1].words}: {found[0]}")
+        if again:
+            order, *wanted = again
+            expect(f"{order.words}, given again", [order.done(here), left(here)], wanted)
+        return what
 
 def taken(folder, before, names, is_replaced, chance):
     """Takes files while an order runs, which is answered, or reports a fault. Another office's file may get the order, and no other."""
@@ -278,26 +243,15 @@ def taken(folder, before, names, is_replaced, chance):
     wrong_if((printed, found, at) not in allowed, f"{names} taken from an order: {printed}, or other rows")
     return kind(printed)
 
-def print_taken(folder, before, runs, chance):
-    table = Table("What is done to the file and its log while an order runs", "runs", "answered", *(f"fault {word}" for word in FAULTS[:2]))
-    for what, *how in (("both removed", [TOWN, LOG], False), ("the log removed", [LOG], False),
-                       ("the file replaced", [TOWN], True), ("both replaced", [TOWN, LOG], True)):
-        found = [taken(folder, before, *how, chance) for _ in range(runs)]
-        table.row(what, runs, *map(found.count, ("answered", *FAULTS[:2])))
-
 # How long another order may wait for the one that stopped, which then continues.
 STUCK, NO_ROOM = 0.4, ["prlimit", "--fsize=40960"]
 
 def check_made(here, name, printed, before):
     """Checks that what was answered is there under its name; or that nothing is left of the file, and an office can be made."""
-    at = here.rows(name)
-    there = [file for file in (name, name + "-wal") if (here.folder / file).exists()]
-    if printed.status == 0:
-        is_right = bool(at) and here.run("wards", town=name).status == 0
-    else:
-        is_right = not at and not there and here.run("init", town=name) == READY
-    if not is_right or before.rows() != (here.rows() if name != TOWN else None):
-        raise Wrong(f"an order that finds no room at {name}, and another, which prints {printed}: {there} is left")
+    at, there = here.rows(name), [file for file in (name, name + "-wal") if (here.folder / file).exists()]
+    is_made, is_free = at and here.run("wards", town=name).status == 0, not at and not there and here.run("init", town=name) == READY
+    is_right = (is_free if printed.status else is_made) and before.rows() == (here.rows() if name != TOWN else None)
+    wrong_if(not is_right, f"an order that finds no room at {name}, and another, which prints {printed}: {there} is left")
 
 def print_gaps(folder, before, runs, chance):
     """Prints the table of orders that find no room for the file that they make, and of others that come to it meanwhile."""
@@ -305,8 +259,7 @@ def print_gaps(folder, before, runs, chance):
     table, trace = Table("An order that finds no room for its file", "another at that file", *outcomes), folder / "gap-trace"
 
     def start(order, here, name, *changes):
-        words = [*strace(trace, here.folder, (name, name + "-wal"), *changes), *NO_ROOM]
-        return order.started(here, under=words, restore_signals=False)
+        return order.started(here, under=strace(trace, here.folder, (name, name + "-wal"), *changes) + NO_ROOM, restore_signals=False)
 
     def is_stopped():
         return trace.exists() and "--- stopped by SIGSTOP ---" in trace.read_text(errors="replace")
@@ -332,7 +285,6 @@ def print_gaps(folder, before, runs, chance):
         table.row(what, "`init`" if other is INIT else "a ward", runs, stops, *map(found.count, ("answered", "102", "105")))
         wrong_if(runs and not stops, f"{what} never stopped")
 
-# A file that is made, and the rights that it is made with.
 CREATED = re.compile(r'openat\(AT_FDCWD, "([^"]*)", [A-Z_|]*O_CREAT[A-Z_|]*, (0\d*)\) = \d')
 
 def print_rights(folder, before):
@@ -353,26 +305,31 @@ def print_rights(folder, before):
         table.row(what, ", ".join(made))
     os.umask(own)
 
-def try_shared_files(runs=100, seed=7):
+def try_shared_files(room, runs=100, seed=7):
     """Gives two orders at one file at once, takes files away, and looks at the rights of what is made.
 
-    - *Two orders at once.* What both print, and the rows, are as if one had been given after the other. While `init` runs the other may
-      report 105.
+    - *Two orders at once.* What both print, and the rows, are as if one had come after the other. During `init` the other may report 105.
     - *Files taken away.* The file or its log is removed, or replaced by another office's. An order continues with the files that it has
       open: they have the rows before it, or those after it if it was answered, and the other office's file isn't changed.
     - *No room.* An order that makes a file finds no room for an office in it. By `strace` it stops after one of its calls on the file, and
-      another order opens that file. If that was answered, the file holds what it printed; else nothing is left, and an `init` makes an
-      office.
+      another order opens that file. If that was answered, the file holds what it printed; else nothing is left, and `init` works there.
     - *Rights.* By `strace`: DB, its log, a copy and the socket are made for their owner alone, and are their owner's alone then.
     """
     needs("strace")
     chance = random.Random(seed)
-    with temporary_folder() as folder:
-        before = offices(folder)
-        print_pairs(folder, before, runs, chance)
-        print_taken(folder, before, runs, chance)
-        print_gaps(folder, before, runs, chance)
-        print_rights(folder, before)
+    before = offices(room)
+    table = Table(f"Two orders at once ({runs} runs each)", "both answered", *(f"one: fault {word}" for word in FAULTS))
+    for what, number, *orders in PAIRS:
+        pair = Pair(room, before[number], *orders)
+        found = [pair.tried(chance) for _ in range(runs)]
+        table.row(what, *map(found.count, ("both", *FAULTS)))
+    table = Table("What is done to the file and its log while an order runs", "runs", "answered", "fault 102", "fault 105")
+    for what, *how in (("both removed", [TOWN, LOG], False), ("the log removed", [LOG], False),
+                       ("the file replaced", [TOWN], True), ("both replaced", [TOWN, LOG], True)):
+        found = [taken(room, before, *how, chance) for _ in range(runs)]
+        table.row(what, runs, *map(found.count, ("answered", "102", "105")))
+    print_gaps(room, before, runs, chance)
+    print_rights(room, before)
 
 SERVING, CROWD, LINES, LONG = 12, 2000, 2000, (32 << 20) - 4096
 # Each kind of order has wards of its own.
@@ -380,9 +337,6 @@ COMING, PIPED, KILLED, STEERS = range(10, 40), 40, 60, 70
 HELD_BYTE, OFD_SETLK = (1 << 30) + 512, 37
 OPEN_LINE = b"town.db is open to other accounts on this machine; 'chmod 600 town.db town.db-wal' closes it\n"
 STEERING, SHOWN = "A\u009b31m\u202eB\u061c\u2066C", b"A\xc2?31m\xe2\x80?B\xd8?\xe2\x81?C"
-
-def expect(what, found, wanted):
-    wrong_if(found != wanted, f"{what}: {found!r}, and not {wanted!r}")
 
 def lock_of_an_order(path):
     """Holds a database as an order does. Returns what lets it go."""
@@ -431,27 +385,25 @@ class Waits:
 
     def while_serve_comes_and_goes(self):
         """Gives orders one after the other, while `serve` begins and is ended again and again."""
-        found, ends, began = [], threading.Event(), time.perf_counter()
+        def come_and_go():
+            for _ in range(SERVING):
+                serving = self.serve()
+                time.sleep(0.05)
+                serving.process.terminate()
+                ended(serving.process, 30)
 
-        def orders():
-            for number in itertools.takewhile(lambda _: not ends.wait(0.05), itertools.cycle(COMING)):
-                found.append((number, self.add(number)))
-        giver = threading.Thread(target=orders, daemon=True)
-        giver.start()
-        for _ in range(SERVING):
-            serving = self.serve()
-            time.sleep(0.05)
-            serving.process.terminate()
-            serving.ended(30)
-        ends.set()
-        giver.join()
+        began = time.perf_counter()
+        with ThreadPoolExecutor(1) as pool:
+            serves = pool.submit(come_and_go)
+            given = itertools.takewhile(lambda _: time.sleep(0.05) or not serves.done(), itertools.cycle(COMING))
+            found = [(number, self.add(number)) for number in given]
+            serves.result()
         cut = [(number, printed) for number, printed in found if printed != added(number)]
         # One whose server was ended after it had read the order may have been done: it says so, and is given again.
         for number, printed in cut:
             expect(f"ward {number}, cut off, and given again", (printed, self.add(number).status), ((3, "", STORE), 0))
-        what = f"{len(found)} orders while `serve` begins and is ended {SERVING} times: "
-        what += f"{len(found) - len(cut)} done at once, {len(cut)} when given again"
-        self.table.row(what, f"{time.perf_counter() - began:.1f}")
+        done, took = f"{len(found) - len(cut)} done at once, {len(cut)} when given again", time.perf_counter() - began
+        self.table.row(f"{len(found)} orders while `serve` begins and is ended {SERVING} times: {done}", f"{took:.1f}")
 
     def script(self, what, first, name=SCRIPT, before="", times=1, pause=0, meanwhile=bool):
         """Sends a script that adds four wards, or one through a pipe, with a pause after each line. Something happens after the second."""
@@ -475,7 +427,7 @@ class Waits:
 
     def slow_and_long(self):
         with self.serve() as serving:
-            with Crowd(serving.port, CROWD):
+            with crowd(serving.port, CROWD):
                 open_ones = f"while {CROWD} silent connections are open"
                 self.script(f"a script through a pipe for two minutes, {open_ones}", PIPED, "slow", pause=30)
                 self.script(f"a script of almost 32 MiB, {open_ones}", PIPED, before="# " + "x" * LONG)
@@ -484,8 +436,7 @@ class Waits:
 
     def at_terminal(self, *words):
         command = ["script", "--quiet", "--command", shlex.join([program(), TOWN, *words]), "/dev/null"]
-        shown = subprocess.run(command, cwd=self.office.folder, stdin=subprocess.DEVNULL, capture_output=True, timeout=60).stdout
-        return shown.replace(b"\r\n", b"\n")
+        return ran(*command, cwd=self.office.folder, text=False, timeout=SECONDS).out.replace(b"\r\n", b"\n")
 
     def terminal(self):
         for mode, lines in ((0o640, 1), (0o620, 1), (0o604, 1), (0o602, 1), (0o600, 0)):
@@ -497,14 +448,13 @@ class Waits:
         expect("a name that steers", (SHOWN in self.at_terminal("wards"), STEERING in self.run("wards").out), (True, True))
         self.table.row("on a terminal: rights of DB, what an order waits for, and no character that steers", "0.0")
 
-def try_waiting_orders():
+def try_waiting_orders(room):
     """Gives orders while their file is held, served, or about to be, and prints how long they took.
 
     An order that finds its file held tries again for ten seconds. It reads its own files before it connects to `serve`, which waits less
     for a silent connection than the pipe of the table takes. Each line of the table says what must happen.
     """
     open_many_files()
-    with temporary_folder() as folder:
-        waits = Waits(folder)
-        for play in (waits.held, waits.while_serve_comes_and_goes, waits.slow_and_long, waits.terminal):
-            play()
+    waits = Waits(room)
+    for play in (waits.held, waits.while_serve_comes_and_goes, waits.slow_and_long, waits.terminal):
+        play()

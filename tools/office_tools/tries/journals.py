@@ -1,15 +1,10 @@
 """Journals of made-up evenings: each makes the same office again, and a mended one."""
-import collections
-import random
-import re
-import shlex
+import collections, random, re, shlex
 
 from office_tools.election import keying, marks_of
-from office_tools.office import SCRIPT, Office, Table, Wrong, remove, temporary_folder, wrong_if
-from office_tools.trials import side_by_side
+from office_tools.office import SCRIPT, Office, Table, about, expect, remove, side_by_side, temporary_folder, wrong_if
 
-SECONDS = 120
-PHASES = ("nominations", "keying", "sealed", "declared")
+SECONDS, PHASES = 120, ("nominations", "keying", "sealed", "declared")
 REFUSED = re.compile(r"line (\d+): (?:file fault|refused) (\d+)(?: at record \d+)?: (.*)\n")
 CLERKS = (1, 4, 5, 9, 17, 998, 999)
 NAMES = (
@@ -18,7 +13,6 @@ NAMES = (
     "`ls`", "=1+1", "*", "~", "Łódź", "名前", "\u00a0", "\u0080", "\u202eeman", "\ufeff", "x" * 120, "é" * 60, "7", "0", "accept:1,,")
 # What an id begins with, before a number.
 IDS = ("k", "-", "--", "---", "-x", "--id", "--help-", "7", "0", "z" * 32)
-# Orders that are always refused.
 REFUSALS = (
     "seal 100", "close 0", "ward 7 0 Harbour", "candidate 7 31 Ann", "withdraw 7 31", "judge 10000 1 reject:5", "judge 1 1 reject:9",
     "lot 7 2 30", "lot 7 32 1", "third 10000 4", "batch 1 7 0 4 4", "key 1000 1 1 D", "key 4 10000 1 D")
@@ -87,7 +81,6 @@ class Evening:
             yield self.order("withdraw", ward, numbers.pop())
         if self.chosen(0.9):
             yield self.order("close", ward)
-            # Batches take turns.
             batches = [self.batch(ward, sorted(numbers)) for _ in range(chance.choice((1, 1, 2, 3)))]
             while batches:
                 batch = chance.choice(batches)
@@ -155,8 +148,7 @@ def compared(office, chance, in_other_forms):
     """Checks that the journal of an office makes the same office. Returns its rows."""
     found, text = office.rows(), journal(office)
     lines = [line for line in text.split("\n") if line and not line.startswith("#")]
-    if len(lines) != len(found["receipt"]):
-        raise Wrong(f"{len(lines)} lines for {len(found['receipt'])} receipts")
+    wrong_if(len(lines) != len(found["receipt"]), f"{len(lines)} lines for {len(found['receipt'])} receipts")
     new = Office(office.folder / "new").begin()
     printed, again = replayed(new, text), new.rows()
     wrong_if(printed.status or printed.err or printed.out.count("\n") != len(lines), f"the journal sent: {printed}")
@@ -167,13 +159,14 @@ def compared(office, chance, in_other_forms):
     for name, form in (("twice", text + text), ("cut", cut), ("shuffled", mixed)) * in_other_forms:
         new = Office(office.folder / name).begin()
         printed = replayed(new, form)
-        if printed.status not in (0, 1, 2) or name == "twice" and (printed.status or new.rows() != found):
-            raise Wrong(f"the journal {name}: {printed}, or other tables")
+        is_wrong = printed.status not in (0, 1, 2) or name == "twice" and (printed.status or new.rows() != found)
+        wrong_if(is_wrong, f"the journal {name}: {printed}, or other tables")
         journal(new)
     return found
 
-def counted(found, refused):
-    had = collections.Counter({"evenings": 1, "orders accepted": len(found["receipt"]), "orders refused": refused})
+def counted(evening, number):
+    found = compared(evening.office, evening.chance, number % 10 == 0)
+    had = collections.Counter({"evenings": 1, "orders accepted": len(found["receipt"]), "orders refused": evening.refused})
     had["candidates withdrawn"] = sum(receipt[2].startswith("withdraw ") for receipt in found["receipt"])
     had.update(f"wards in {PHASES[ward[2] - 1]}" for ward in found["ward"])
     had.update({
@@ -185,30 +178,24 @@ def counted(found, refused):
 def print_evenings(title, evenings, seed, act, front=""):
     """Plays evenings side by side, and prints the sum of what an act counts of each."""
     def played(number):
-        with temporary_folder() as folder:
-            try:
-                evening = Evening(random.Random(f"{front}{seed} {number}"), Office(folder / "town").begin())
-                evening.play()
-                return act(evening, number)
-            except Wrong as wrong:
-                raise Wrong(f"evening {number} of seed {seed}: {wrong}") from wrong
+        with temporary_folder() as folder, about(f"evening {number} of seed {seed}"):
+            evening = Evening(random.Random(f"{front}{seed} {number}"), Office(folder / "town").begin())
+            evening.play()
+            return act(evening, number)
     Table(f"{title} (seed {seed})", "number").rows(sum(side_by_side(played, range(evenings)), collections.Counter()))
 
 def try_journalled(evenings=200, seed=7):
     """Plays made-up evenings, sends the journal of each to a new office, and compares all rows.
 
     Names and ids look like words of a script. Refused orders, and ids that were given to something else, come between. `journal` has a line
-    for each receipt, and each is accepted by `replay`. All tables of both offices have the same rows, and the new office has the same
-    journal. That of one evening in ten is also sent twice, which makes the same tables, cut, and shuffled: each makes an office with a
-    journal.
+    for each receipt, and each is accepted by `replay`. All tables of both offices have the same rows, and both have the same journal. That
+    of one evening in ten is also sent twice, which makes the same tables, cut, and shuffled: each makes an office with a journal.
     """
-    print_evenings("What the evenings had", evenings, seed, lambda evening, number: counted(
-        compared(evening.office, evening.chance, number % 10 == 0), evening.refused))
+    print_evenings("What the evenings had", evenings, seed, counted)
 
 NEW, COUNTS = "mended.db", ("advance", "lot", "declare")
 # How many words of an order say what it is about, besides its name; of others it is one.
 ABOUT = {"candidate": 2, "withdraw": 2, "lot": 2, "judge": 2}
-END = re.compile(r"mended: (\d+) orders kept, (\d+) replaced, (\d+) left out")
 
 def split(line):
     """Returns the words of a script's line, in which a backslash is a character like others."""
@@ -254,8 +241,8 @@ def refusals(new, sent):
     for text in printed.err.splitlines(keepends=True):
         if match := REFUSED.fullmatch(text):
             refused[sent[int(match[1]) - 1][0]] = f"refused {match[2]}: {match[3]}"
-        elif not text.startswith("line") or "note:" not in text:
-            raise Wrong(f"the orders that are left: {printed}")
+        else:
+            wrong_if(not text.startswith("line") or "note:" not in text, f"the orders that are left: {printed}")
     return refused
 
 def expected(office, lines, without, instead, number):
@@ -301,11 +288,10 @@ def mended(chance, office, number):
     wrong_if(printed.status or printed.err or office.rows() != before, f"mend {words}: {printed}, or the office was changed")
     new, gone = expected(office, lines, without, instead, number)
     *told, last = printed.out.splitlines()
-    if told != (wanted := list(told_of(lines, gone, instead, [its.run("wards").out.splitlines() for its in (office, new)]))):
-        raise Wrong(f"mend {words} printed {printed.out!r}, and not {wanted}")
-    replaced, end = len(instead.keys() - gone), END.fullmatch(last)
-    if not end or [int(n) for n in end.groups()] != [len(lines) - replaced - len(gone), replaced, len(gone)]:
-        raise Wrong(f"mend {words} counted {last}")
+    replaced, wards = len(instead.keys() - gone), [its.run("wards").out.splitlines() for its in (office, new)]
+    expect(f"mend {words} printed", told, list(told_of(lines, gone, instead, wards)))
+    counts = f"{len(lines) - replaced - len(gone)} orders kept, {replaced} replaced, {len(gone)} left out"
+    expect(f"mend {words} counted", last, f"mended: {counts}")
     wrong_if(different := differing(new.rows(), office.rows(NEW)), f"mend {words}: {different}")
     whys = {"as asked": "as asked", "since they are refused": "refused", "since their ward changed": "changed before"}
     return collections.Counter({

@@ -1,32 +1,20 @@
 """The package of a release: what shells offer of its words, and its script count-office-lan on a machine of its own."""
-import contextlib
-import hashlib
-import itertools
-import os
-import re
-import shlex
-import shutil
-import ssl
-import subprocess
-import tempfile
+import contextlib, hashlib, itertools, os, re, shlex, shutil, ssl, subprocess
 from pathlib import Path
 
 from office_tools.election import CODES, evening_office
-from office_tools.office import ROOT, needs, temporary_folder, waited, wrong_if
+from office_tools.office import ROOT, needs, ran, temporary_folder, waited, wrong_if
 
 OFFICE, CLIENT = MACHINES = [f"{name}-{os.getpid()}" for name in ("office", "client")]
 HERE, TELLER, STRANGER = "192.168.7.1", "192.168.7.20", "192.168.8.20"
 LAN, WORK, BATCH, ALLOWED, OTHER = "count-office-lan", "/clerks/4/work", "/clerks/4/batches/14", "192.168.7.0/24", "192.168.8.0/24"
 
-def ran(*words):
-    return subprocess.run(words, stdout=subprocess.PIPE, stderr=subprocess.STDOUT, text=True)
-
 def see(what, done, status, *texts):
     """Prints what was seen, if a command ended with a status and printed these texts; returns all that it printed."""
-    wrong_if(done.returncode != status or any(text not in done.stdout for text in texts),
-             f"{what}: status {done.returncode}, and it printed: {done.stdout}")
+    printed = done.out + done.err
+    wrong_if(done.status != status or any(text not in printed for text in texts), f"{what}: {done.status}, {printed}")
     print(f"seen: {what}", flush=True)
-    return done.stdout
+    return printed
 
 @contextlib.contextmanager
 def network():
@@ -41,7 +29,7 @@ def network():
         yield
     finally:
         for machine in MACHINES:
-            ran("kill", "-KILL", *ran("ip", "netns", "pids", machine).stdout.split())
+            ran("kill", "-KILL", *ran("ip", "netns", "pids", machine).out.split())
             ran("ip", "netns", "delete", machine)
 
 class Debian:
@@ -106,8 +94,7 @@ def try_lan():
     """Sets nginx up by count-office-lan in a clean Debian root, and keys through it from another machine.
 
     The machines are network namespaces: the office's, with the package of release/ and these sources' script in that root; a client's, with
-    a teller's address, and one of a network that isn't let in. Needs root, Debian's mmdebstrap, iproute2 and curl, and a mirror of its
-    packages.
+    a teller's address, and one of a network that isn't let in. Needs root, mmdebstrap, iproute2 and curl, and a mirror of Debian.
     """
     needs("mmdebstrap", "ip", "curl", "chroot")
     with temporary_folder() as folder, network():
@@ -118,7 +105,7 @@ def try_lan():
         evening_office(debian.root / "elections")
         serve = f"cd /elections && exec count-office town.db serve 8080 --codes codes.txt {re.search('--origin .*', printed)[0]}"
         subprocess.Popen(debian.words("sh", "-c", serve))
-        waited(lambda: "unauthorized" in debian.run("curl", "-s", f"http://127.0.0.1:8080{WORK}").stdout)
+        waited(lambda: "unauthorized" in debian.run("curl", "-s", f"http://127.0.0.1:8080{WORK}").out)
         secret = debian.trusting(printed)
         key(secret)
         change(debian, secret)
@@ -154,13 +141,13 @@ def completed(shell, root, folder):
     inside = ["chroot", str(root), "/usr/bin/env", "-i", "-C", home, *clean, shell]
     if shell == "fish":
         for typed, _, _ in CASES:
-            words = [line.split("\t")[0] for line in ran(*inside, "-c", 'complete -C "$argv"', typed).stdout.splitlines()]
+            words = [line.split("\t")[0] for line in ran(*inside, "-c", 'complete -C "$argv"', typed).out.splitlines()]
             yield f"{typed.rpartition(' ')[0]} {' or '.join(words)}" if words else typed
         return
     (folder / f".{shell}rc").write_text(f"{STARTS[shell]}\n{PRINTING}", encoding="ascii")
     terminal = ["script", "-qec", shlex.join([*inside, "-i"]), "/dev/null"]
     typed = "".join(f"{typed}\t\n" for typed, _, _ in CASES) + "exit\n"
-    yield from re.findall("^told: (.*)$", subprocess.run(terminal, input=typed, stdout=subprocess.PIPE, text=True).stdout, re.M)
+    yield from re.findall("^told: (.*)$", ran(*terminal, input=typed).out, re.M)
 
 def try_completions(root=Path("/")):
     """Tries what bash, zsh and fish offer after `count-office`, in a root folder where the package and the three shells are installed.
@@ -169,11 +156,11 @@ def try_completions(root=Path("/")):
     place prints the words that it gets. fish is asked by its own `complete -C`. Needs root, and Debian's bsdutils for `script`.
     """
     needs("script")
-    with tempfile.TemporaryDirectory(dir=root / "tmp", prefix="completed here ") as folder:
+    with temporary_folder(dir=root / "tmp", prefix="completed here ") as folder:
         for name in ("town.db", "clerk4.csv", "ballots.txt"):
-            Path(folder, name).touch()
+            (folder / name).touch()
         for shell in ("fish", *STARTS):
-            for (typed, word, what), found in itertools.zip_longest(CASES, completed(shell, root, Path(folder))):
+            for (typed, word, what), found in itertools.zip_longest(CASES, completed(shell, root, folder)):
                 wanted = f"{typed.rpartition(' ')[0]} {word}" if word else typed
                 wrong_if(found != wanted, f"{shell} doesn't offer {what}: {typed}, told {found!r}")
                 print(f"seen: {shell} offers {what}: {typed}", flush=True)

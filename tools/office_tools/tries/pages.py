@@ -1,10 +1,5 @@
 """The office's pages in Chromium: the console, the page for clerks, the screen in the hall; pages from elsewhere; and a picture."""
-import functools
-import json
-import random
-import re
-import shlex
-import time
+import json, random, re, time
 from pathlib import Path
 
 from office_tools.election import CODES, HOSTILE, TITLE, keyed, marks_of, ward_orders
@@ -18,11 +13,10 @@ THIRTEEN = ["1,,1,,", "2,,1,,", "3,,1,,", "4,,,1,", "5,,,2,1", "6,D,,,"]
 OTHER = [*THIRTEEN[:4], "5,,,1,2", THIRTEEN[5]]
 # The guide's orders as they are typed: the console has to make the same office.
 TYPED = """ward 7 2 Harbour; ward 8 2 Quay; candidate 7 1 Ann; candidate 7 2 Bob; candidate 7 3 Cy; candidate 7 4 Dee; candidate 7 5 Gil;
-candidate 8 1 'Eve, jr'; candidate 8 2 Fay; withdraw 7 5; close 7; close 8; batch 12 7 8 4 9; batch 13 7 6 4 9;
-key 4 12 1 1,2,, 1,2,, 1,2,, 1,,2, 1,,,2 D 1,,, ,,,; key 4 13 1 ,1,, ,1,, ,1,, ,,1, ,,2,1 D; key 9 13 1 ,1,, ,1,, ,1,, ,,1, ,,1,2 D;
-key 9 12 1 1,2,, 1,2,, 1,2,, 1,,2, 1,,,2 D 1,,, ,,,; again 13; key 4 13 2 ,1,, ,1,, ,1,, ,,1, ,,2,1 D;
-key 9 13 2 ,1,, ,1,, ,1,, ,,1, ,,1,2 D; third 13 5; key 5 13 2 ,1,, ,1,, ,1,, ,,1, ,,2,1 D; judge 12 6 accept:1,,,;
-judge 13 6 reject:4; seal 7; advance 7; advance 7; lot 7 3 4; advance 7; advance 7; declare 7; declare 8""".replace("\n", " ").split("; ")
+candidate 8 1 'Eve, jr'; candidate 8 2 Fay; withdraw 7 5; close 7; close 8; batch 12 7 8 4 9; batch 13 7 6 4 9; key 4 12 1 TWELVE;
+key 4 13 1 THIRTEEN; key 9 13 1 OTHER; key 9 12 1 TWELVE; again 13; key 4 13 2 THIRTEEN; key 9 13 2 OTHER; third 13 5;
+key 5 13 2 THIRTEEN; judge 12 6 accept:1,,,; judge 13 6 reject:4; seal 7; advance 7; advance 7; lot 7 3 4; advance 7; advance 7;
+declare 7; declare 8""".replace("\n", " ").split("; ")
 
 def quiet(officer):
     asked = officer.go("overview").evening.line.asked
@@ -37,14 +31,41 @@ def compare(found, wanted):
         rows["receipt"] = sorted((actor, subject, reply) for actor, _, subject, reply in rows["receipt"])
     wrong_if(differing := [name for name in wanted if found[name] != wanted[name]], f"the console's office has other rows of {differing}")
 
+def put_right(officer, paper, verdict, picture):
+    """Replaces the verdict on a paper, which was rejected, in a new office."""
+    told = f"batch {paper.replace(' ', ' paper ')} rejected 4"
+    officer.go("journal").type("receipt-search", f"judge {paper}").shows("1 order", "receipts").shows(told, "receipts")
+    name = officer.value("document.querySelector('#receipts button').dataset.key").removeprefix("right ")
+    officer.click(f"right {name}").shows("Leave it out", "mending").tab_to(f"leave {name}").keys("Down").type(f"rest {name}", verdict)
+    officer.type("mended-name", "mended.db").pictured(picture).click("make-mended")
+    officer.yes(told, f"replaced by judge {paper} {verdict}", said="make the new office mended.db")
+
+def going_over(officer, teller):
+    """Goes over to an office in which a verdict is put right, while a teller has a draft, and has sent a keying that has no reply yet."""
+    line, office = officer.evening.line, officer.evening.office
+    teller.log_in().keys("Enter").views("start").keys("Enter", at=1).papers("1,2,", at=2)
+    put_right(officer.log_in(), "12 1", "accept:1,,", "32-putting-right")
+    officer.pictured("33-report").click("go-over").asked("mended-2.db", "judge 12 1 accept:1,,").pictured("34-ask-switch")
+    teller.anew(f"{teller.page}#14").views("start").keys("Enter", at=1).papers("2,1,").views("end")
+    line.cuts = 1
+    teller.keys("s").shows("is not responding", "said").pictured("63-waits")
+    officer.keys("y").shows("The office is now mended-2.db").shows("Updated at", "health").pictured("35-switched")
+    before = office.rows()
+    teller.shows("batch 14 round 1 keyed", "said").pictured("64-kept").anew(f"{teller.page}#13").shows("Go on at paper 2", "notice")
+    teller.pictured("65-draft").papers(",1,").views("end").keys("s").shows("batch 13 round 1 keyed", "said")
+    for batch, papers in ((13, ["1,2,", ",1,"]), (14, ["2,1,"])):
+        office.do(*keyed(batch, papers, [4])[0].split(), town="mended-2.db")
+    officer.go("count", 7).click("seal").yes("Seal Ward 7", said="ward 7 sealed: 5 valid, 0 rejected").pictured("36-sealed")
+    wanted = [*(line.replace("reject:4", "accept:1,,") for line in PUT_RIGHT), *keyed(14, ["2,1,"]), *keyed(13, ["1,2,", ",1,"])]
+    compare(office.rows("mended-2.db"), Office(officer.evening.folder / "typed").begin([*wanted, "seal 7 --id s"]).rows())
+    wrong_if(office.rows() != before, "the office before a switch has changed after it")
+
+PUT_RIGHT = [*ward_orders((12, 2, 4, 9), (13, 2, 4, 9), (14, 1, 4, 9)), *keyed(12, ["D", "1,2,"]), "judge 12 1 reject:4 --id v2"]
+
 def putting_right(officer):
     """Puts a verdict right in a new office, and compares its report and its rows with those of the typed order."""
     before = (office := officer.evening.office).rows()
-    officer.go("journal").type("receipt-search", "judge 13 6").shows("1 order", "receipts").shows("batch 13 paper 6 rejected 4", "receipts")
-    name = officer.value("document.querySelector('#receipts button').dataset.key").removeprefix("right ")
-    officer.click(f"right {name}").shows("Leave it out", "mending").tab_to(f"leave {name}").keys("Down").type(f"rest {name}", "accept:,,1,")
-    officer.type("mended-name", "mended.db").pictured("29-putting-right").click("make-mended")
-    officer.yes("batch 13 paper 6 rejected 4", "replaced by judge 13 6 accept:,,1,", said="make the new office mended.db")
+    put_right(officer, "13 6", "accept:,,1,", "29-putting-right")
     report = officer.pictured("30-report").value("document.querySelector('#mending pre').textContent")
     report = re.sub(r": by \S+$", ": by v3", report, flags=re.M)
     wanted = office.do("mend", "typed.db", "--with", "judge 13 6 accept:,,1, --id v3")
@@ -61,8 +82,7 @@ def nominations(officer):
             officer.asked("Add ward 7").pictured("2-ask-ward")
         officer.yes(f"Add ward {number}", name, "2 seats")
     officer.go("nominations", 7).fill("candidate", number=1, name="Ann").reload()
-    if officer.shows("Updated at", "health").value("document.getElementById('candidate-name').value") != "Ann":
-        raise Wrong("what was typed is lost")
+    officer.shows("Updated at", "health").until("document.getElementById('candidate-name').value === 'Ann'")
     officer.fill("candidate", name="Ann").send().shows("candidate 1 of ward 7 added")
     officer.drop("drop-candidates", names=[*NAMES[:3], "7,3,Dee", *NAMES[4:]]).shows("This number is in the file twice", "preview")
     officer.pictured("3-preview-wrong").drop("drop-candidates", names=NAMES).shows("Will be added", "preview")
@@ -178,11 +198,10 @@ def declaring(officer):
 def printed(officer):
     """Prints the declaration and the sheet, and checks that they are what the orders print and that the page is as before."""
     officer.driver.execute_script("window.print = () => { window.printed = document.querySelector('#paper pre').textContent; };")
-    for key, words in (("print-result", ["result", 7]), ("print-sheet", ["sheet", 7])):
-        officer.click(key).until(f"window.printed === {json.dumps(officer.evening.office.do(*words))}")
+    for order in ("result", "sheet"):
+        officer.click(f"print-{order}").until(f"window.printed === {json.dumps(officer.evening.office.do(order, 7))}")
         officer.value("dispatchEvent(new Event('afterprint'))")
-    if officer.value("document.getElementById('paper').children.length || document.body.classList.contains('printing')"):
-        raise Wrong("the printed text is still on the page")
+    officer.until("!document.getElementById('paper').children.length && !document.body.classList.contains('printing')")
     officer.type("title page", TITLE)
     saved(officer, ("page", "result-7.html", ["page", 7, "--title", TITLE]), ("save-sheet", "sheet-7.txt", ["sheet", 7]),
           ("form declaration", "declaration-7.html", ["forms", "declaration", 7]))
@@ -211,16 +230,21 @@ def try_console_evening(pictures: Path = None):
       same stage. A teller keys a batch at the page for that, by keys alone, which asks nothing but what is its clerk's.
     - What was typed is still there after a reload. Enter in a field sends nothing. A teller's file for a round after the first is sent only
       if the officer confirms it. Each file that is downloaded or printed, forms included, is what the order prints.
-    - A verdict is put right in a new office, which has the rows that the typed order makes. The office stays as it is.
+    - A verdict is put right in a new office, which has the rows that the typed order makes. The office stays as it is. In another evening
+      the office goes over to the new one. Officer and teller continue there; a draft and a keying without a reply are kept.
     - While nothing changes, the console requests nothing but the list of wards, and never what isn't in docs/formats/console-api.md. If the
       office's file is gone, it says so. The browser reports nothing but what failed on purpose. Nothing is wider than the window.
     """
-    with played(pictures, Officer, functools.partial(Teller, clerk=9)) as [officer, teller]:
+    people = Officer, lambda evening: Teller(evening, clerk=9)
+    with played(pictures, *people, office=lambda folder: Office(folder).begin(PUT_RIGHT)) as [officer, teller]:
+        going_over(officer, teller)
+    with played(pictures, *people) as [officer, teller]:
         nominations(officer.log_in().pictured("1-empty"))
         papers(officer, teller)
         for play in (adjudication, counting, declaring):
             play(officer)
-        typed = Office(officer.evening.folder / "typed").begin([f"{line} --id i{number}" for number, line in enumerate(TYPED)])
+        lines = [re.sub("[A-Z]{5,}", lambda name: " ".join(marks_in(globals()[name[0]])), line) for line in TYPED]
+        typed = Office(officer.evening.folder / "typed").begin([f"{line} --id i{number}" for number, line in enumerate(lines)])
         compare(officer.evening.office.rows(), typed.rows())
         putting_right(officer)
         file_gone(officer)
@@ -235,7 +259,6 @@ FAKE = """const batches = Array.from({length: 9000}, (_, place) => ({
 DRAWN = """(async () => { await draw(); const began = performance.now(); await draw(); document.body.offsetHeight;
     return performance.now() - began; })()"""
 SETTLED = "document.getElementById('count-now').innerText.match(/Next:|duly elected/)?.[0] ?? ''"
-# What comes next in a count, and the button for it.
 STEPS = (("the seal", "seal"), ("a lot", "lot"), ("the declaration", "declare"), ("stage", "count"))
 
 def numbered(count):
@@ -250,7 +273,7 @@ def names(officer, screen):
     nominated = HOSTILE + [f"{number} {'Featherstonehaugh-Marjoribanks ' * 4}"[:120].strip() for number in range(9, 31)]
     ranked = [sorted(chance.sample(range(30), 20), key=lambda place: place + chance.randrange(30)) for _ in range(300)]
     valid, ward = [marks_of(order, 30) for order in ranked], ward_orders((1, 302, 4, 9), candidates=nominated, seats=15, ward=9, name=name)
-    officer.evening.another([*ward_orders(candidates=numbered(3), ward=1, name="Old"), f"ward 9 15 {shlex.quote(name)} --id w9"], "before")
+    officer.evening.another([*ward_orders(candidates=numbered(3), ward=1, name="Old"), ward[0]], "before")
     screen.begin().look(9, "Nominations are open", picture="60-nominations").look(0, "Nominations are open", picture="60-list")
     officer.log_in().type("expected 1", 30).type("expected 9", 302).go("nominations", 9).fill("candidate", name="Ann").open("about:blank")
     officer.evening.another([*ward, *keyed(1, ["D", "D", *valid])])
@@ -269,7 +292,7 @@ def names(officer, screen):
     officer.yes("First preference: 7", "2 Bob", said="batch 1 paper 2 accepted").pictured("42-names-judged")
     officer.go("count", 9).click("seal").yes("All expected papers were given out: 302", said="ward 9 sealed")
     screen.look(9, "Valid papers 302", "Rejected papers 0", "Quota 19.00000", picture="62-sealed")
-    counted(officer, 9)
+    counted(officer)
     officer.pictured("44-names-declared").go("overview").shows("All wards are declared", "steps").pictured("45-names-overview")
     last = screen.look(9, "1 of 1 ward declared").value("lastPart(9)")
     for part in range(1, last):
@@ -280,26 +303,19 @@ def names(officer, screen):
         marked = "document.querySelectorAll('img, main i b, main script, #view script').length || document.title === 'marked'"
         wrong_if(page.value(marked), "a name is markup")
 
-def counted(officer, ward):
-    for _ in range(60):
-        officer.until(SETTLED)
-        text = officer.value("document.getElementById('count-now').innerText")
-        if "duly elected" in text:
-            return
+def counted(officer):
+    officer.until(SETTLED)
+    while "duly elected" not in (text := officer.value("document.getElementById('count-now').innerText")):
         step = next(key for word, key in STEPS if f"Next: {word}" in text)
         if step == "lot":
             officer.tab_to(officer.value("document.querySelector('#count-now input[type=radio]').dataset.key")).keys(" ").pictured("43-lot")
-        officer.click(step).yes(said="Done")
-    raise Wrong(f"ward {ward} isn't declared")
-
-def give_out(officer, ward, **fields):
-    officer.go("batches", ward).value("(document.getElementById('give').open = true)")
-    officer.fill("give", **fields).send()
+        officer.click(step).yes(said="Done").until(SETTLED)
 
 def refused(officer, _):
     """A script of batches is refused halfway, and the rest goes to the tellers whose turn it is. A file is too large."""
     officer.evening.another(ward_orders((3, 10, 4, 9), candidates=numbered(4), ward=1, name="A"))
-    give_out(officer.log_in(), 1, **{"from": 1}, count=4, size=10, last=7, clerks="4 9 5 6 7 8")
+    officer.log_in().go("batches", 1).value("(document.getElementById('give').open = true)")
+    officer.fill("give", **{"from": 1}, count=4, size=10, last=7, clerks="4 9 5 6 7 8").send()
     officer.yes("4 batches, 37 papers", said="line 3: refused 8: batch exists").pictured("46-refused")
     officer.until("document.getElementById('give-clerks').value === '7 8 4 9 5 6'")
     left = [officer.value(f"document.getElementById('give-{field}').value") for field in ("from", "count", "size", "last")]
@@ -308,8 +324,7 @@ def refused(officer, _):
     officer.drop("drop-keyings", large=["paper 3/4,1,2,3,4", *["1,1,2,3,4"] * 120000]).shows("not sent", "brought")
     officer.shows("too large for the console").pictured("47-too-large").tab_to("sign-out").keys("Enter")
     officer.until("document.body.innerText.includes('You have signed out')")
-    for address in ("about:blank", officer.evening.address("office/")):
-        officer.open(address)
+    officer.anew("office/")
     wrong_if("Count office" in officer.text(), "an officer who signed out isn't asked for the code")
 
 def large(officer, screen):
@@ -346,8 +361,7 @@ def try_console_hostile(pictures: Path = None, *, only: str = ""):
       direction, and aren't cut off. Before that, another office is served at the same address: the console asks whether it is the right
       one, sends nothing, and keeps what was typed and still fits. Papers of thirty candidates are judged by keyboard, and each lot is
       recorded. What the screen says of lots and of wards without a poll, and what keys do there, `tools/check script` shows.
-    - *Refused*: a script of batches stops halfway, and the rest goes to the tellers whose turn it is. A file is too large. Anyone who
-      signed out is asked for the code.
+    - *Refused*: a script of batches stops halfway; the rest goes to those whose turn it is. A file is too large. One signs out, and is out.
     - *Large*: 99 wards and 9,999 batches. Each section is drawn within a second, with at most 300 rows at once.
 
     --only PLAY plays one of names, refused and large. Pictures, at 1280, 800 and 400 pixels and of the screen at 1920, go into PICTURES.
@@ -431,8 +445,6 @@ def try_foreign_pages(*, codes=False):
 
 PAPERS = ["1,2,"] * 4 + ["1,,2"] * 2 + [",1,"] + [",,1"] * 2
 COUNTED = ["seal 7 --id s1", *(f"advance 7 --id a{stage}" for stage in (1, 2, 3)), "declare 7 --id d1"]
-# The end of the picture, below the stages, in pixels from the top.
-END = "17 + Math.ceil([...document.querySelectorAll('table')].at(-1).getBoundingClientRect().bottom)"
 
 def try_page_picture(file=ROOT / "docs/page-7.png"):
     """Makes docs/page-7.png, the picture in README of the page of a ward, from a real office.
@@ -442,10 +454,10 @@ def try_page_picture(file=ROOT / "docs/page-7.png"):
     """
     with temporary_folder() as folder, Browser(["--hide-scrollbars"]) as browser:
         office = Office(folder).begin([*ward_orders((12, len(PAPERS), 4, 9)), *keyed(12, PAPERS), *COUNTED])
-        if f"```text\n{office.do('sheet', 7)}```" not in (ROOT / "docs/formats/sheets.md").read_text(encoding="utf-8"):
-            raise Wrong("docs/formats/sheets.md shows another sheet than the one of this ward")
+        page = (ROOT / "docs/formats/sheets.md").read_text(encoding="utf-8")
+        wrong_if(f"```text\n{office.do('sheet', 7)}```" not in page, "docs/formats/sheets.md shows another sheet than the one of this ward")
         office.write("page.html", office.do("page", 7, "--title", TITLE).splitlines())
         browser.resize(1120, 3000)
         browser.open(f"file://{folder}/page.html")
-        browser.resize(1120, browser.value(END))
+        browser.resize(1120, browser.value("17 + Math.ceil([...document.querySelectorAll('table')].at(-1).getBoundingClientRect().bottom)"))
         Path(file).write_bytes(browser.picture())

@@ -1,17 +1,10 @@
 """What stops an order or `serve`: a kill, a refusal of memory, a failing disk. Nothing that was answered is lost."""
-import collections
-import functools
-import itertools
-import random
-import re
-import statistics
-import time
+import collections, random, re, time
 from concurrent.futures import ThreadPoolExecutor
 
 from office_tools.election import COPY, COPY_LOG, FILE, election, ward_orders
-from office_tools.office import (
-    LOG, SCRIPT, STORE, TOWN, Office, Table, Wrong, ended, is_whole, needs, request, temporary_folder, timed, wrong_if)
-from office_tools.trials import CALL, NOT_WRITTEN, ON_FILES, RESULTS, added, side_by_side, trials
+from office_tools.office import LOG, SCRIPT, STORE, TOWN, Office, Table, ended, expect, needs, request, side_by_side, timed, wrong_if
+from office_tools.trials import CALL, NOT_WRITTEN, ON_FILES, RESULTS, Trial, trials
 
 # The election whose orders are killed has 99 valid papers and a doubtful one.
 COPIES = 11
@@ -26,7 +19,7 @@ def killed(trial, wait):
     is_killed = printed.status < 0
     return is_killed, trial.judged(here, printed, is_killed, lambda _: is_killed or printed == trial.printed)
 
-def try_killed(runs=100, seed=7):
+def try_killed(room, runs=100, seed=7):
     """Kills each order of a small election RUNS times (SIGKILL), at a random moment, and sees that nothing is lost.
 
     The file is whole by the stock `sqlite`, with the rows before the order or those after it; if the order had answered, those after it. An
@@ -35,30 +28,25 @@ def try_killed(runs=100, seed=7):
     """
     def killings(trial):
         chance = random.Random(f"{seed} {trial.number}")
-        longest = 1.2 * statistics.median(timed(trial.order.done, trial.office.copied(trial.folder / "timed"))[1] for _ in range(3))
-        return (("killed", chance.uniform(0, longest)) for _ in range(runs))
+        longest = 1.2 * sorted(timed(trial.order.done, trial.office.copied(trial.folder / "timed"))[1] for _ in range(3))[1]
+        return (("killed", {"wait": chance.uniform(0, longest)}) for _ in range(runs))
 
-    with temporary_folder() as folder:
-        tried = trials(folder, orders=election(COPIES))
-        print_stops(f"A kill ({runs} runs each, seed {seed})", [("SIGKILL", "an order", killings)], tried, killed)
-
-def refused(trial, how):
-    return trial.refused(**how)
+    tried = trials(room, orders=election(COPIES))
+    print_stops(f"A kill ({runs} runs each, seed {seed})", [("SIGKILL", "an order", killings)], tried, killed)
 
 def print_stops(title, kinds, tried, act):
-    """Prints the table of how trials were stopped: the kinds are a way, what of, and a function that yields the stops of a trial."""
-    totals, table = [[0] * 5 for _ in kinds], Table(f"{title}, {len(tried)} orders", "of", "runs", "stopped", "not", *RESULTS)
-    for found in side_by_side(lambda trial: [trial.runs(act, stops(trial)) for *_, stops in kinds], tried):
-        totals = [added(total, counts) for total, counts in zip(totals, found)]
-    for (way, of, _), counts in zip(kinds, totals):
+    """Prints the table of how trials were stopped: the kinds are a way, what of, and what yields the stops of a trial, with its words."""
+    table = Table(f"{title}, {len(tried)} orders", "of", "runs", "stopped", "not", *RESULTS)
+    found = side_by_side(lambda trial: [trial.runs(act, stops(trial, *how)) for _, _, stops, *how in kinds], tried)
+    totals = [[sum(column) for column in zip(*rows)] for rows in zip(*found)]
+    for (way, of, *_), counts in zip(kinds, totals):
         if any(counts):
             table.row(way, of, sum(counts[:2]), *counts)
     wrong_if(not any(map(any, totals)), "nothing was stopped; to refuse memory needs a program of the GNU C library")
 
 # With this setting the GNU C library asks the system for each growth by itself. `brk` and `mremap` never give any, so it asks by `mmap`.
 GROWING = {"calls": ("mmap", "brk", "mremap", "rt_sigaction"), "env": {"GLIBC_TUNABLES": "glibc.malloc.mmap_threshold=1"}}
-NEVER = ["brk:error=ENOMEM", "mremap:error=ENOMEM"]
-NO_MEMORY = [r"fault 101: memory", r"file fault 9 at record \d+: memory"]
+NEVER, NO_MEMORY = ["brk:error=ENOMEM", "mremap:error=ENOMEM"], [r"fault 101: memory", r"file fault 9 at record \d+: memory"]
 
 def growths(trial, step):
     """Yields each refusal: its name, and how the order is given. Before the program sets what signals do, growths are the loader's."""
@@ -68,27 +56,25 @@ def growths(trial, step):
     for growth in range(first + trial.number % step, calls.count("mmap") + 1, step):
         yield f"growth {growth}", {"faults": NO_MEMORY, "changes": [*NEVER, f"mmap:error=ENOMEM:when={growth}..{growth + 1}"], **GROWING}
 
-def try_refused_growths(step=1, order=""):
+def try_refused_growths(room, step=1, order=""):
     """Refuses each growth of memory of each order in turn, and sees that nothing is lost.
 
     The GNU C library is set to ask the system for each growth by itself, and `strace` refuses the one that is meant. An order asks for some
     7,000 growths, which takes hours: STEP tries one in STEP, from another one on for each order; ORDER the orders of one name alone. Each
     run meets what `tools/try killed` requires, and reports fault 101, or prints what it prints with ample memory. `serve` may also
-    disconnect the client, or end with fault 101. The second `advance 7 --id a3` is refused, since it comes before its lot, and the second
-    `status 7` finds no file.
+    disconnect the client, or end with fault 101. The second `advance 7 --id a3` comes before its lot, the second `status 7` finds no file.
     """
     needs("strace")
-    with temporary_folder() as folder:
-        kinds = [("a growth is refused", "memory", functools.partial(growths, step=step))]
-        print_stops(f"Memory, one in {step}", kinds, trials(folder, order), refused)
+    kinds = [("a growth is refused", "memory", lambda trial: growths(trial, step))]
+    print_stops(f"Memory, one in {step}", kinds, trials(room, order), Trial.refused)
 
 FAULT, GONE_FILE, READ = "fault 102: store", "fault 113: file gone or replaced", r"file fault 8 at record \d+: read failed"
 COPIED, EVERY = [COPY, COPY_LOG], [TOWN, LOG, COPY, COPY_LOG, "."]
 ONCE, GONE, ROOM = "a call fails once", "all calls fail from one on", "no room past a length, which cuts a write"
-KINDS = [
-    (ONCE, "DB", [TOWN]), (ONCE, "its log", [LOG]), (ONCE, "the folder", ["."]), (ONCE, "a copy", [COPY]),
-    (ONCE, "a copy's log", [COPY_LOG]), (ONCE, "the import file", [FILE]), (ONCE, "the script", [SCRIPT]), (GONE, "any", EVERY),
-    (GONE, "a copy and its log", COPIED), (ROOM, "any", EVERY)]
+FILES = {"DB": TOWN, "its log": LOG, "the folder": ".", "a copy": COPY, "a copy's log": COPY_LOG, "the import file": FILE,
+         "the script": SCRIPT}
+KINDS = [*((ONCE, what, [name]) for what, name in FILES.items()), (GONE, "any", EVERY), (GONE, "a copy and its log", COPIED),
+         (ROOM, "any", EVERY)]
 WRITE = re.compile(r" pwrite64\(.*, (\d+), (\d+)\) = ")
 
 def may_report(trial, names):
@@ -112,23 +98,22 @@ def failures(trial, way, names, step):
         which = [f"{name}:error=EIO:when={before[name] + 1}" for name in (calls[number:number + 1] if way == ONCE else ON_FILES)]
         yield f"{way}: {which[0]}", {"changes": which if way == ONCE else [f"{one}+" for one in which], "keeps": way == GONE, **how}
 
-def try_failing_disk(step=1, order=""):
+def try_failing_disk(room, step=1, order=""):
     """Fails each call on the disk of each order that writes, and sees that nothing is lost.
 
     By `strace` one call fails, or all calls from one on, as on a disk that is gone; or there is no room past a length (`prlimit --fsize`).
     STEP tries one call in STEP, ORDER the orders of one name alone. Each run meets what `tools/try killed` requires, and reports fault 102
     (for an import file or a script its own fault 8), or prints what it prints with a disk that works. `serve` may also report fault 113,
-    and `copy` 110 if its own file or log fails, even after its reply. A disk that is gone may keep a file of `copy` or `init` with no
-    office in it.
+    and `copy` 110 if its own file or log fails, even after its reply. If all calls fail, `copy` and `init` may leave a file, not an office.
     """
     needs("strace")
-    kinds = [(way, what, functools.partial(failures, way=way, names=names, step=step)) for way, what, names in KINDS]
-    with temporary_folder() as folder:
-        tried = [trial for trial in trials(folder, order) if len(trial.states) > 1]
-        print_stops(f"The disk, one call in {step}", kinds, tried, refused)
+    kinds = [(way, what, lambda trial, *how: failures(trial, *how, step), way, names) for way, what, names in KINDS]
+    tried = [trial for trial in trials(room, order) if len(trial.states) > 1]
+    print_stops(f"The disk, one call in {step}", kinds, tried, Trial.refused)
 
 CLERKS, PAPERS, WARDS = range(1, 21), 2, range(11, 21)
 KEYING = '{"id":"k","round":1,"papers":["1,2,","D"]}'
+WHOLE = re.compile(rb"HTTP/1\.1 200 OK\r\n.*?Content-Length: (\d+)\r\n.*?\r\n\r\n(.*)", re.DOTALL)
 
 class Crowd:
     """Twenty clerks who key at once, and orders that are handed over meanwhile."""
@@ -138,26 +123,28 @@ class Crowd:
         here = self.office.copied(self.here)
         self.seconds, self.answered = self.served(here)
         self.before, self.after = set(rows_of(self.office)), set(rows_of(here))
-        if len(self.answered) < len(CLERKS) + len(WARDS):
-            raise Wrong(f"of twenty clerks at once and ten orders these are answered: {self.answered}")
+        wrong_if(len(self.answered) < len(CLERKS) + len(WARDS), f"of twenty clerks at once and ten orders are answered: {self.answered}")
 
     def order(self, here):
         """Adds ten wards, one after the other, and returns what was answered, by ward. The others must print a fault of the store."""
         printed = {f"ward {ward}": here.run("ward", ward, 2, f"Ward {ward}", "--id", f"w{ward}") for ward in WARDS}
-        if other := [one for ward, one in printed.items() if one not in ((0, f"{ward} added\n", ""), (3, "", STORE))]:
-            raise Wrong(f"an order for a ward prints {other}")
+        other = [one for ward, one in printed.items() if one not in ((0, f"{ward} added\n", ""), (3, "", STORE))]
+        wrong_if(other, f"an order for a ward prints {other}")
         return {ward: one for ward, one in printed.items() if one.status == 0}
 
     def served(self, here, wait=None):
         """Returns (seconds of clerks and of orders, whose answers) of a `serve` that is killed after some seconds, or at the end."""
-        with here.serve().wait() as serving, ThreadPoolExecutor(len(CLERKS) + 1) as pool:
+        with here.serve().wait() as serving, ThreadPoolExecutor(len(CLERKS) + 2) as pool:
             def key_all():
                 asked = pool.map(lambda n: serving.ask(request(f"/clerks/{n}/batches/{n}/keying", body=KEYING)), CLERKS)
-                return {f"clerk {n}": text for n, text in zip(CLERKS, asked) if is_whole(text)}
+                found = {f"clerk {n}": (text, WHOLE.fullmatch(text)) for n, text in zip(CLERKS, asked)}
+                return {clerk: text for clerk, (text, parts) in found.items() if parts and len(parts[2]) == int(parts[1])}
 
-            killer, orders = serving.killed_after(wait), pool.submit(timed, self.order, here)
-            (keyed, keying), (ordered, ordering) = timed(key_all), orders.result()
-            killer.join()
+            keyings, orders = pool.submit(timed, key_all), pool.submit(timed, self.order, here)
+            if wait is not None:
+                time.sleep(wait)
+                serving.process.kill()
+            (keyed, keying), (ordered, ordering) = keyings.result(), orders.result()
         return (keying, ordering), keyed | ordered
 
     def kept(self, here):
@@ -168,8 +155,8 @@ class Crowd:
             ward = row[0] if table == "ward" else row[1].removeprefix("w") if table == "receipt" and row[0] == 0 else None
             owners[f"ward {ward}" if ward else f"clerk {row[2] if table == 'keying' else row[0]}"].add((table, row))
         kept = {owner for owner, rows in owners.items() if rows <= found}
-        if found != set(itertools.chain(*(owners[owner] for owner in kept))) or set(owners) != set(self.answered):
-            raise Wrong(f"twenty clerks at once left other rows, or some of somebody's: {sorted(found)}")
+        is_wrong = found != set().union(*(owners[owner] for owner in kept)) or set(owners) != set(self.answered)
+        wrong_if(is_wrong, f"twenty clerks at once left other rows, or some of somebody's: {sorted(found)}")
         return kept
 
     def killed(self, chance):
@@ -177,28 +164,24 @@ class Crowd:
         here = self.office.copied(self.here)
         _, answered = self.served(here, chance.uniform(0, 1.2 * chance.choice(self.seconds)))
         kept = self.kept(here)
-        if lost := set(answered) - kept:
-            raise Wrong(f"what {sorted(lost)} sent was answered, and is lost")
+        wrong_if(lost := set(answered) - kept, f"what {lost} sent was answered, and is lost")
         _, again = self.served(here)
-        if again != self.answered or set(rows_of(here)) != self.after:
-            raise Wrong("twenty clerks who key again, and the officer, get something else, or leave other rows")
+        expect("what twenty clerks who key again, and the officer, get and leave", (again, set(rows_of(here))), (self.answered, self.after))
         return answered, kept
 
 def rows_of(office):
     return [(table, row) for table, rows in office.rows().items() for row in rows]
 
-def try_killed_serving(runs=200, seed=7):
+def try_killed_serving(room, runs=200, seed=7):
     """Kills `serve` at random moments while it serves clients, and sees that nothing is lost.
 
     Twenty clerks key at once, each their own batch, and the office gives ten orders, which are handed over to `serve`. After its kill the
     file is whole, with some of the keyings and orders, each whole and with its receipt: that of each clerk who had the whole response with
-    code 200, and each order that was answered. An order is answered, or prints fault 102. All of them, sent again to another `serve`, get
-    their replies, and leave the rows of all.
+    code 200, and each order that was answered. An order is answered, or prints fault 102. All of them, sent again, leave the rows of all.
     """
     chance = random.Random(seed)
-    with temporary_folder() as folder:
-        crowd = Crowd(folder)
-        found = [crowd.killed(chance) for _ in range(runs)]
+    crowd = Crowd(room)
+    found = [crowd.killed(chance) for _ in range(runs)]
     heads = "runs", "answered", "found", "runs with some of them, and not all"
     table = Table(f"Twenty clerks at once, and ten orders (seed {seed})", *heads)
     for what, kind, most in (("each clerk keys a batch", "clerk", len(CLERKS)), ("the office adds ten wards", "ward", len(WARDS))):

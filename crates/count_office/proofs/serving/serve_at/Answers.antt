@@ -18,7 +18,7 @@ returns g c =
     subst (λ (outcome : Result (Unit {0}) Failure). MayServe (IsGivenBy c.args.serving c.args.gate_files.now (g.H.Host.file c.args.host.now)) line (state g.S.Store) c.args.serving.port
     (known c.args.host.now) (known c.close.new.self) c.args.serving.connections c.args.office.now through.new.office outcome) (sym c.outcome_of.ensures)
     (served_on c.args.serving c.args.gate_files.now (option_map public_entry c.public_of.result)
-    (g.H.Host.file c.args.host.now) found.field-0.file (g.H.Side.ServedFile.whole found.field-0.served_file) line
+    (g.H.Host.file c.args.host.now) found.field-0.file (g.H.OfficeFile.ServedFile.whole found.field-0.served_file) line
     (state g.S.Store) (known c.args.host.now) (known c.open.new.self) (known c.close.new.self)
     (g.H.Sockets.Network.known found.field-0.network) (g.H.Sockets.Network.known through.new.network) c.args.office.now through.new.office through.result
     found.ensures.same found.ensures.known c.close.ensures.known c.close.ensures.others found.ensures.file (c.public_of.ensures ∙ c.in_ok-texts.ensures) through.ensures)

@@ -1,5 +1,5 @@
 -- Proof that `count_stages` meets its contract.
-use Rattle.std.proofs.Common.{◌≡◌, ◌≢◌, ◌∙◌, ◌<◌, true, false, true≢false, length, ap, refl, sym, subst, arith}
+use Rattle.std.proofs.Common.{◌≡◌, ◌≢◌, ◌∙◌, ◌<◌, false, true≢false, length, sym, subst, arith}
 use Rattle.sqlite.specs.Held.{state}
 use Rattle.store.proofs.KeepLemmas.{connection_itself, connection_then}
 use Rattle.desk.specs.Pages.{below, cut_below, uncut, empty_page, fronted, page_of}

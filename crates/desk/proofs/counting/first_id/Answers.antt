@@ -1,6 +1,5 @@
 -- Proof that `first_id` meets its contract: one of these requests is the first.
-use Rattle.std.proofs.Common.{◌≡◌, ◌∙◌, [], length, map, refl, sym, ap, arith}
-use Rattle.desk.specs.Orders.{Sent, sent_as}
+use Rattle.std.proofs.Common.{◌∙◌}
 use Rattle.desk.proofs.StageLemmas.{first_named, none_numbered}
 use Rattle.desk.proofs.counting.first_id.Goals as goal
 

@@ -1,6 +1,5 @@
 -- Proof that `mended_open` meets its contract.
 use Rattle.std.proofs.Common.{◌∙◌, inl, inr, refl, sym, subst, ap, List, length, map, string_bytes}
-use Rattle.clap.specs.Words.{Text}
 use Rattle.sqlite.specs.Held.{state}
 use Rattle.register.specs.declared.command.Request.{Request}
 use Rattle.tables.proofs.ReadLemmas.{only_reads_itself}
@@ -9,12 +8,13 @@ use Rattle.mending.specs.declared.changes.Changes.{Changes}
 use Rattle.desk.specs.Journals.{IsScriptOf}
 use Rattle.desk.specs.Mends.{script_of}
 use Rattle.desk.specs.Pages.{page_of}
-use Rattle.desk.proofs.MendLemmas.{ends_unread}
+use Rattle.desk.proofs.MendLemmas.{ends_unbegun, unbegun}
 use Rattle.desk.proofs.mended_office.mended_open.Goals as goal
 
 -- the texts after `--with` aren't orders that can be sent, or an allocation failed
 pub returns-in-Err-clause-made : goal.returns-in-Err-clause-made
-returns-in-Err-clause-made g c clean is_open s at journal mended blank second = inr (c.in-Err.ensures.err, refl)
+returns-in-Err-clause-made g c clean is_open s at journal mended blank second =
+    inr (unbegun c.args.asked.now (page_of c.in-Err.outcome) (rw c.deref.ensures.value at c.in-Err.ensures.err), refl)
 
 pub returns-in-Err-clause-stays : goal.returns-in-Err-clause-stays
 returns-in-Err-clause-stays g c clean is_open s at = inl (record { is_open = is_open; at = at })
@@ -53,7 +53,9 @@ returns-clause-made g c clean is_open s at journal mended blank second =
 
 -- what is reported about the new database
 pub returns-in-Err-clause-holds : goal.returns-in-Err-clause-holds
-returns-in-Err-clause-holds g c = ends_unread (page_of c.in-Err.outcome) c.in-Err.ensures.err
+returns-in-Err-clause-holds g c =
+    ends_unbegun c.args.asked.now (page_of c.in-Err.outcome) (unbegun c.args.asked.now (page_of c.in-Err.outcome) (rw c.deref.ensures.value at c.in-Err.ensures.err))
 
 pub returns-in-Err-found-clause-holds : goal.returns-in-Err-found-clause-holds
-returns-in-Err-found-clause-holds g c = ends_unread (page_of c.in-Err-found.outcome) (inr (rw c.in-Err-found.is at c.orders_and_wards-found.ensures.told))
+returns-in-Err-found-clause-holds g c =
+    ends_unbegun c.args.asked.now (page_of c.in-Err-found.outcome) (inr (rw c.in-Err-found.is at c.orders_and_wards-found.ensures.told))

@@ -1,8 +1,6 @@
 -- Proof that `unsent` meets its contract.
 use Rattle.std.proofs.Common.{inl, inr, ap, refl}
-use Rattle.tables.specs.declared.fault.Fault.TheVariants.{Memory}
 use Rattle.desk.specs.Pages.{unmended}
-use Rattle.desk.specs.declared.lines.Failure.TheVariants.{Office}
 use Rattle.desk.proofs.mended_office.unsent.Goals as goal
 
 -- the text is the constant
@@ -11,4 +9,4 @@ returns-in-Ok c = inl (ap unmended c.in-Ok.ensures.ok)
 
 -- an allocation for it failed
 pub returns-in-Err : goal.returns-in-Err
-returns-in-Err c = inr (inr (Office Memory, refl))
+returns-in-Err c = inr refl

@@ -1,5 +1,5 @@
 -- Proof that `follow` meets its contract.
-use Rattle.std.proofs.Common.{◌∷◌, [], inl, refl}
+use Rattle.std.proofs.Common.{inl, refl}
 use Rattle.desk.proofs.order_running.follow.Goals as goal
 
 pub returns-in-Run-clause-did : goal.returns-in-Run-clause-did

@@ -1,12 +1,11 @@
 -- Proof that `run` meets its contract.
-use Rattle.std.proofs.Common.{◌≡◌, ◌∷◌, [], inl, inr, refl}
+use Rattle.std.proofs.Common.{◌∷◌, [], inl, inr, refl}
 use Rattle.sqlite.specs.Held.{state}
 use Rattle.store.proofs.KeepLemmas.{reads_connection}
 use Rattle.office.specs.Answers.{IsOpenAt}
 use Rattle.tables.specs.declared.fault.Fault.TheVariants.{Memory}
 use Rattle.desk.specs.Pages.{failed, fronted, page_of, page_for}
 use Rattle.desk.specs.Parts.{IsOver}
-use Rattle.desk.specs.Told.{IsTold}
 use Rattle.desk.specs.declared.lines.Failure.TheVariants.{Office}
 use Rattle.desk.proofs.CauseLemmas.{since}
 use Rattle.desk.proofs.CourseLemmas.{sent_turned, unsent_told}

@@ -3,8 +3,7 @@ use Rattle.std.proofs.Common.{[], inl, inr, refl, subst, sym}
 use Rattle.sqlite.specs.State.{HasCleanDisk}
 use Rattle.sqlite.specs.Held.{state}
 use Rattle.store.proofs.KeepLemmas.{reads_connection}
-use Rattle.tables.specs.Reading.{FailsBy}
-use Rattle.desk.specs.Headline.{Headline, IsFailed}
+use Rattle.desk.specs.Headline.{Headline}
 use Rattle.desk.specs.Pages.{failed}
 use Rattle.desk.specs.declared.lines.Failure.TheVariants.{Office}
 use Rattle.desk.specs.declared.orders.Task.TheVariants.{InOffice}

@@ -1,7 +1,6 @@
 -- Proof that `files_named_in` meets its contract.
 use Rattle.std.proofs.Common.{ap, inr, map, string_bytes}
 use Rattle.desk.specs.Lexing.{line_entry, typed_line_entry}
-use Rattle.desk.specs.Scripts.{lines_of, numbered_from}
 use Rattle.desk.proofs.JournalLemmas.{files_found, flaw_of_text, turns_of_text}
 use Rattle.desk.proofs.script_files.files_named_in.Goals as goal
 

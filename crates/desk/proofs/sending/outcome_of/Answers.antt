@@ -1,8 +1,7 @@
 -- Proof that `outcome_of` meets its contract.
-use Rattle.std.proofs.Common.{◌≡◌, ◌∙◌, ap, inl, inr, refl, subst, sym, string_bytes}
+use Rattle.std.proofs.Common.{ap, inl, inr, refl, string_bytes}
 use Rattle.sqlite.specs.Held.{state}
 use Rattle.store.proofs.KeepLemmas.{reads_connection, connection_then}
-use Rattle.register.specs.Machine.{step_of}
 use Rattle.desk.specs.Pages.{page_for}
 use Rattle.desk.proofs.CauseLemmas.{since}
 use Rattle.desk.proofs.NoteLemmas.{answered_before}

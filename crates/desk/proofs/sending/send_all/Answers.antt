@@ -1,5 +1,5 @@
 -- Proof that `send_all` meets its contract.
-use Rattle.std.proofs.Common.{◌≡◌, ◌∙◌, ◌<◌, ◌+◌, ◌∷◌, [], true, false, drop, take, length, ap, refl, sym, arith}
+use Rattle.std.proofs.Common.{◌≡◌, ◌∙◌, ◌<◌, ◌+◌, ◌∷◌, true, false, drop, take, length, ap, sym, arith}
 use Rattle.sqlite.specs.Held.{state}
 use Rattle.store.proofs.KeepLemmas.{connection_itself, connection_then}
 use Rattle.desk.specs.Headline.{ended, told_above}

@@ -1,5 +1,4 @@
 -- Proof that `adjudication_asked` meets its contract.
-use Rattle.std.proofs.Common.{map}
 use Rattle.sqlite.specs.Held.{state}
 use Rattle.store.specs.Overviews.{doubtful_papers_view}
 use Rattle.office.specs.Overviews.{doubtful_answer}

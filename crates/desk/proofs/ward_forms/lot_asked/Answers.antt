@@ -1,5 +1,4 @@
 -- Proof that `lot_asked` meets its contract.
-use Rattle.std.proofs.Common.{map}
 use Rattle.sqlite.specs.Held.{state}
 use Rattle.register.specs.NextSteps.{step_entry}
 use Rattle.office.specs.Reads.{next_answer}

@@ -19,3 +19,10 @@ pub returns-in-Mend-clause-did : goal.returns-in-Mend-clause-did
 returns-in-Mend-clause-did g c =
     let told = c.mend_for_order.ensures.told in
     record { page = told.page; cut = told.cut; shown = told.shown; is = λ clean is_open s at. rw c.in-Mend.is (told.is clean is_open s at) }
+
+-- a copy and a new office are made in the file that the order's path means, or in none
+pub returns-in-Copy-clause-ended : goal.returns-in-Copy-clause-ended
+returns-in-Copy-clause-ended g c = rw c.in-Copy.is (c.copy_for_order.ensures.somewhere, c.copy_for_order.ensures.nowhere)
+
+pub returns-in-Mend-clause-ended : goal.returns-in-Mend-clause-ended
+returns-in-Mend-clause-ended g c = rw c.in-Mend.is (c.mend_for_order.ensures.somewhere, c.mend_for_order.ensures.nowhere)

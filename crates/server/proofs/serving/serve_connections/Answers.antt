@@ -30,7 +30,7 @@ returns-clause-served g c =
     (few_closed c.args.connections c.unwrap_or-most.result c.in-Ok.table.counted went.new.table.counted c.close_all.new.table.counted c.unwrap_or-most.ensures
     c.in-Ok.ensures.2 went.ensures.few c.close_all.ensures.go.counted)
     (all_closed went.result c.args.connections c.unwrap_or-most.result c.in-Ok.table.counted went.new.table.counted c.close_all.new.table.counted
-    c.unwrap_or-most.ensures c.in-Ok.ensures.2 went.ensures.few c.close_all.ensures.go.counted went.ensures.all) went.ensures.idle went.ensures.moved
+    c.unwrap_or-most.ensures c.in-Ok.ensures.2 went.ensures.few c.close_all.ensures.go.counted went.ensures.all) went.ensures.idle went.ensures.gone
 
 pub returns-clause-closed : goal.returns-clause-closed
 returns-clause-closed g c =

@@ -1,4 +1,4 @@
-use Rattle.desk.proofs.lines.tell_codes_and_office_made.Goals as goal
+use Rattle.desk.proofs.codes_lines.tell_codes_made.Goals as goal
 
 pub returns : goal.returns
 returns g c = rw c.format.ensures.text at c.tell_text.ensures

@@ -3,7 +3,7 @@ use Rattle.std.specs.Prelude.{◌∷◌, ◌++◌, [], codes}
 use Rattle.codes.specs.Faults.{fault_line, fault_text as codes_text}
 use Rattle.desk.specs.Pages.{codes_place, joined}
 use Rattle.desk.proofs.PageLemmas.{put_behind, put_failed}
-use Rattle.desk.proofs.lines.put_codes_fault.Goals as goal
+use Rattle.desk.proofs.codes_lines.put_codes_fault.Goals as goal
 
 pub returns-in_err-put_pieces : goal.returns-in_err-put_pieces
 returns-in_err-put_pieces g c =

@@ -3,7 +3,7 @@ use Rattle.std.specs.Prelude.{◌∷◌, [], codes}
 use Rattle.codes.specs.Faults.{fault_text as codes_text}
 use Rattle.desk.specs.Pages.{joined}
 use Rattle.desk.proofs.PageLemmas.{put_behind, put_failed}
-use Rattle.desk.proofs.lines.put_codes_text.Goals as goal
+use Rattle.desk.proofs.codes_lines.put_codes_text.Goals as goal
 
 pub returns-in_err-put_place : goal.returns-in_err-put_place
 returns-in_err-put_place g c =

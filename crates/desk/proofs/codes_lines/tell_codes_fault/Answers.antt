@@ -1,5 +1,5 @@
 use Rattle.std.proofs.Common.{inl, inr, refl}
-use Rattle.desk.proofs.lines.tell_codes_fault.Goals as goal
+use Rattle.desk.proofs.codes_lines.tell_codes_fault.Goals as goal
 
 pub returns-in-Ok : goal.returns-in-Ok
 returns-in-Ok g c = inl (c.in-Ok.ensures.all, c.in-Ok.ensures.ok, refl)
