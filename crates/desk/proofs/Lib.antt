@@ -25,3 +25,5 @@ mod KeysRead
 mod OverviewLemmas
 mod FormLemmas
 mod MendLemmas
+mod WholeLineLemmas
+mod SecondLemmas

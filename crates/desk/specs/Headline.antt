@@ -11,7 +11,7 @@ use Rattle.store.specs.Migrations.{HoldsNoOlder, IsToldInMigration, LeavesOldOrN
 use Rattle.store.specs.declared.migration.Migrated.TheVariants.{Already, Done}
 use Rattle.office.specs.{Answers.IsClosedIn, Answers.IsKeptOpen, Answers.IsMemoryOrStore, Answers.IsOpenAt, Answers.Told, Answers.told_of, Reads.IsClosedReading, Runs.Keeps}
 use Rattle.desk.specs.{Folders.File, Folders.Folder, Folders.IsFileAt, Requests.Sends, Requests.file_of, Scripts.HasSteps, Scripts.keeps_going, Told.IsNoScript, Told.IsTold, Told.page_answered}
-use Rattle.desk.specs.Pages.{Cut, Page, below, cut_below, empty_page, failed, fronted, goes_on, migrated_text, replied, uncut}
+use Rattle.desk.specs.Pages.{Cut, Page, below, cut_below, cut_note, empty_page, failed, fronted, goes_on, migrated_text, replied, uncut}
 use Rattle.desk.specs.declared.{lines.Failure.TheVariants.Office, orders.Job.Job, orders.Task.Task, scripts.ScriptStep.ScriptStep}
 use Rattle.desk.specs.declared.orders.Task.TheVariants as task
 
@@ -79,11 +79,16 @@ module _ (old : State) (closed : Bool) (st : State) where
       × (((requests : List Request) × Sends s turn.errand file requests × IsSent keep turn.line (page_answered turn.errand) (λ next. IsPlayed keep folder next turns) s requests course)
       ⊎ IsUnsent keep turn.line (IsTold s turn.errand file) (IsPlayed keep folder s turns) s course)
 
+  -- Steps are run. If the end of their script is left out, a note says so first, and no step is run unless it was written.
+  abbrev pub IsBegun : Bool → Bool → Folder → OfficeState → List ScriptStep → Course → Type 0
+  IsBegun false keep folder s turns course = IsPlayed keep folder s turns course
+  IsBegun true keep folder s turns course = IsUnsent false None (λ page. page ≡ cut_note) (IsPlayed keep folder s turns) s course
+
   -- A job is done in the open office: its steps are run; with `keep_going`, the job continues after refusals. Or the page says why the job's text isn't a script. Or the
   -- page reports a fault.
   abbrev pub IsDone : Folder → OfficeState → Job → Course → Type 0
-  IsDone folder s job course = ((turns : List ScriptStep) × HasSteps folder job turns
-      × IsPlayed (keeps_going job) folder s turns course) ⊎ IsUnsent false None (IsNoScript folder job) (λ rest. ⊥) s course
+  IsDone folder s job course = ((turns : List ScriptStep) × (left_out : Bool) × HasSteps folder job left_out turns
+      × IsBegun left_out (keeps_going job) folder s turns course) ⊎ IsUnsent false None (IsNoScript folder job) (λ rest. ⊥) s course
 
 -- Nothing is sent, and after a stop the state is unchanged.
 abbrev pub IsUntouched : (Page → Type 0) → OfficeState → Course → State → Type 0
