@@ -40,14 +40,15 @@ given_errand (errand.Ask question) given = absurd (cc given)
 -- steps of which none does anything else send requests
 all_given : (turns : List ScriptStep) → first_ungiven turns ≡ None → (requests : List Request) × AreSent turns requests
 all_given [] none = ([], refl)
-all_given (turn ∷ turns) none = by (is_given turn.errand) refl
+all_given (turn ∷ turns) none = by (is_given turn.errand) refl (all_given turns)
   where
-    by : (b : Bool) → is_given turn.errand ≡ b → (requests : List Request) × AreSent (turn ∷ turns) requests
-    by true given =
+    by : (b : Bool) → is_given turn.errand ≡ b → (first_ungiven turns ≡ None → (requests : List Request) × AreSent turns requests)
+        → (requests : List Request) × AreSent (turn ∷ turns) requests
+    by true given more =
         let first = given_errand turn.errand given in
-        let rest = all_given turns (rw given at none) in
+        let rest = more (rw given at none) in
         (first.0 ∷ rest.0, ap₂ (λ (e : Errand) (es : List Errand). e ∷ es) first.1 rest.1)
-    by false other = let some : Some turn ≡ None = rw other at none in absurd (cc some)
+    by false other more = let some : Some turn ≡ None = rw other at none in absurd (cc some)
 
 -- if no requests are all that the steps send, the line is that of the first step that does something else
 pub ungiven_found : (turns : List ScriptStep) (line : Option ℕ) → line ≡ option_and_then (λ (t : ScriptStep). t.line) (first_ungiven turns)
