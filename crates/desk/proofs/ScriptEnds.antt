@@ -7,11 +7,11 @@ use Rattle.sqlite.specs.State.{State}
 use Rattle.register.specs.Offices.{OfficeState}
 use Rattle.tables.specs.declared.fault.Fault.TheVariants.{Memory}
 use Rattle.office.specs.Answers.{IsOpenAt}
-use Rattle.desk.specs.Lexing.{IsFaultOfLines, IsReplayOf}
+use Rattle.desk.specs.Lexing.{IsFaultOfLines, IsReplayOfBy}
 use Rattle.desk.specs.Folders.{File, Folder, HoldsText, IsFileAt}
-use Rattle.desk.specs.Headline.{Course, IsDone, IsStopped, IsUnsent, ended}
+use Rattle.desk.specs.Headline.{Course, IsDoneBy, IsStopped, IsUnsent, ended}
 use Rattle.desk.specs.Pages.{Cut, Page, failed, goes_on, script_page}
-use Rattle.desk.specs.Parts.{ComesTo, IsUnreadScript}
+use Rattle.desk.specs.Parts.{IsUnreadScript}
 use Rattle.desk.specs.Told.{IsRefusedScript}
 use Rattle.desk.specs.declared.orders.Job.TheVariants as job
 use Rattle.desk.specs.declared.lines.Failure.TheVariants.{Office}
@@ -69,33 +69,29 @@ unsent_ended : (Tells : Page → Type 0) (old : State) (closed : Bool) (st : Sta
 unsent_ended Tells old closed st s page cut other why = inr (page, cut, refl, (λ goes. absurd (stops_at page other goes)), why)
 
 -- a script's file at a path, and an office that is open in the given state
-module _ (folder : Folder) (s : OfficeState) (keep : Bool) (path : Bor Text) (file : File) (found : IsFileAt folder (Some path.now) file) (old : State) (closed : Bool) (st : State) where
-  out_of_memory : (page : Page) (cut : Cut) → page ≡ failed (Office Memory) → IsOpenAt s closed st → IsDone old closed st folder s (job.Replay path keep) (ended None [] 0 page cut)
+module _ (recorded : Bool) (folder : Folder) (s : OfficeState) (keep : Bool) (path : Bor Text) (file : File) (found : IsFileAt folder (Some path.now) file) (old : State) (closed : Bool) (st : State) where
+  out_of_memory : (page : Page) (cut : Cut) → page ≡ failed (Office Memory) → IsOpenAt s closed st → IsDoneBy recorded old closed st folder s (job.Replay path keep) (ended None [] 0 page cut)
   out_of_memory page cut is here = inr (unsent_ended _ old closed st s page cut (unread_ends page (inr is)) (inr (Memory, is, (inl refl, inl (record { memory = refl; open_at = here })))))
 
   -- the outcome of a script that can't be read
-  pub replay_unread : (page : Page) (cut : Cut) → IsUnreadScript page → IsOpenAt s closed st → ComesTo cut page (IsDone old closed st folder s (job.Replay path keep))
-  replay_unread page cut why here = (
-    [],
-    0,
-    elim (refused_script file page why) [
-      | inl refused ↦ inr (unsent_ended _ old closed st s page cut (unread_ends page why) (inl ((file, found, refused), here)))
-      | inr memory ↦ out_of_memory page cut memory here
-    ],
-  )
+  pub replay_unread : (page : Page) (cut : Cut) → IsUnreadScript page → IsOpenAt s closed st → IsDoneBy recorded old closed st folder s (job.Replay path keep) (ended None [] 0 page cut)
+  replay_unread page cut why here = elim (refused_script file page why) [
+    | inl refused ↦ inr (unsent_ended _ old closed st s page cut (unread_ends page why) (inl ((file, found, refused), here)))
+    | inr memory ↦ out_of_memory page cut memory here
+  ]
 
   -- the outcome if a line isn't understood or an allocation fails
   replay_fault : (lines : List Typed) (fault : ScriptFault) (cut : Cut) → IsFaultOfLines lines fault → HoldsText file (λ text. lines ≡ script_lines text) → IsOpenAt s closed st
-      → IsDone old closed st folder s (job.Replay path keep) (ended None [] 0 (script_page fault) cut)
+      → IsDoneBy recorded old closed st folder s (job.Replay path keep) (ended None [] 0 (script_page fault) cut)
   replay_fault lines script.Memory cut is holds here = out_of_memory (script_page script.Memory) cut refl here
   replay_fault lines (script.ScriptLine number flaw) cut is holds here =
       inr (unsent_ended _ old closed st s (script_page (script.ScriptLine number flaw)) cut (λ zero. absurd (omega arith)) (inl ((file, found, first_flaw file lines number flaw is holds), here)))
 
   -- the outcome of a script's lines
-  pub replay_of : (lines : List Typed) (c : Course) → HoldsText file (λ text. lines ≡ script_lines text) → IsReplayOf keep folder s lines c old closed st
-      → IsDone old closed st folder s (job.Replay path keep) c
+  pub replay_of : (lines : List Typed) (c : Course) → HoldsText file (λ text. lines ≡ script_lines text) → IsReplayOfBy recorded keep folder s lines c old closed st
+      → IsDoneBy recorded old closed st folder s (job.Replay path keep) c
   replay_of lines c holds (inl (turns, are, played)) = inl (turns, (file, found, holds_turns file lines turns are holds), played)
-  replay_of lines c holds (inr (why, cut, is, wrong, here)) = subst (λ e. IsDone old closed st folder s (job.Replay path keep) e) (sym is) (replay_fault lines why cut wrong holds here)
+  replay_of lines c holds (inr (why, cut, is, wrong, here)) = subst (λ e. IsDoneBy recorded old closed st folder s (job.Replay path keep) e) (sym is) (replay_fault lines why cut wrong holds here)
 
 pub no_output : (fault : ScriptFault) → (script_page fault).out ≡ []
 no_output script.Memory = refl

@@ -47,9 +47,11 @@ whole_lines text = whole_lines_from [] text
 abbrev pub LeavesRecord : (Text → Type 0) → (OfficeState → Type 0) → Type 0
 LeavesRecord found P = (text : Text) → found text → (x : OfficeState) × P x × IsJournalOf x (whole_lines text)
 
--- whatever a stop leaves of the record leads to exactly this state
-abbrev pub IsRecordOf : (Text → Type 0) → OfficeState → Type 0
-IsRecordOf found s = LeavesRecord found (λ x. x ≡ s)
+-- The record is known, and complete: each text that a stop may leave consists of whole lines, and leads to exactly this state.
+pub record IsRecordOf (found : Text → Type 0) (s : OfficeState) : Type 0 where
+  pub known : (text : Text) × found text
+  pub whole : (text : Text) → found text → whole_lines text ≡ text
+  pub leads : LeavesRecord found (λ x. x ≡ s)
 
 -- ---- requests and the record
 
@@ -62,10 +64,12 @@ pub record IsAfterAnswered (s : OfficeState) (requests : List Request) (answered
   pub is : x ≡ after s (take count requests)
 
 -- What became of the record of an office in the given state while requests were sent to it, of which so many were answered. Whatever a stop leaves of it leads to the state
--- after a beginning of the requests, which contains each answered one and at most one more. Unless the record failed, that beginning is just the answered ones.
+-- after a beginning of the requests, which contains each answered one and at most one more. Unless the record failed, that beginning is just the answered ones. It fails
+-- only at a request that isn't answered.
 pub record IsRecorded (s : OfficeState) (requests : List Request) (answered : ℕ) (old new : Text → Type 0) (failed : Bool) : Type 0 where
   pub leaves : IsRecordOf old s → LeavesRecord new (IsAfterAnswered s requests answered)
   pub whole : failed ≡ false → IsRecordOf old s → IsRecordOf new (after s (take answered requests))
+  pub unfailed : answered ≡ length requests → failed ≡ false
 
 -- A request that was accepted in the given state was recorded: what a stop leaves leads to the state after it. If that failed, it leads to the state before or after it.
 pub record Records (request : Request) (old new : Text → Type 0) (failed : Bool) : Type 0 where

@@ -59,6 +59,7 @@ pub mod perform;
 pub mod plain;
 mod printing;
 pub mod progress;
+pub mod record;
 mod sealing;
 mod sending;
 pub mod slips;
@@ -74,9 +75,10 @@ pub use lines::{
     tell_slips, tell_words,
 };
 pub use mended_office::{MendTrial, mend_open};
-pub use order_running::follow;
+pub use order_running::{follow, follow_recorded};
 pub use orders::{Errand, ExpectedSeal, Form, Job, KeyingFile, MendOrder, Order, Question, Task};
 pub use progress::ProgressSink;
+pub use record::{NoRecord, Recorder};
 pub use script_files::files_named_in;
 pub use slips::slips_of;
 pub use words::{WordsFault, order};
