@@ -25,3 +25,7 @@ mod KeysRead
 mod OverviewLemmas
 mod FormLemmas
 mod MendLemmas
+mod ContentLemmas
+mod RecordLemmas
+mod SameLemmas
+mod ScriptContinues

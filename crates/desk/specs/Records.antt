@@ -18,18 +18,20 @@ pub record IsLeftOf (file : Appended) (text : Text) : Type 0 where
   pub count : ℕ
   pub is : text ≡ file.flushed ++ take count file.pending
 
--- more bytes were appended: all of these, or a beginning of them
-pub record IsAppended (old new : Appended) (bytes : List ℕ) (count : ℕ) : Type 0 where
-  pub flushed : new.flushed ≡ old.flushed
-  pub pending : new.pending ≡ old.pending ++ take count bytes
+-- a stop may leave this text of a file; it may leave none of a file of which nothing is known
+abbrev pub Leaves : Option Appended → Text → Type 0
+Leaves None text = ⊥
+Leaves (Some file) text = IsLeftOf file text
 
--- whatever the file is known to hold, it holds this afterwards
+-- whatever the file is known to hold, these bytes were appended to it
 abbrev pub AppendsAll : Option Appended → Option Appended → List ℕ → Type 0
 AppendsAll old new bytes = IfSome old (λ file. new ≡ Some (record { flushed = file.flushed; pending = file.pending ++ bytes }))
 
+-- a beginning of these bytes was appended to it
 abbrev pub AppendsSome : Option Appended → Option Appended → List ℕ → Type 0
 AppendsSome old new bytes = IfSome old (λ file. (count : ℕ) × (new ≡ Some (record { flushed = file.flushed; pending = file.pending ++ take count bytes })))
 
+-- the bytes appended to it were flushed
 abbrev pub FlushesAll : Option Appended → Option Appended → Type 0
 FlushesAll old new = IfSome old (λ file. new ≡ Some (record { flushed = file.flushed ++ file.pending; pending = [] }))
 
@@ -47,9 +49,11 @@ whole_lines text = whole_lines_from [] text
 abbrev pub LeavesRecord : (Text → Type 0) → (OfficeState → Type 0) → Type 0
 LeavesRecord found P = (text : Text) → found text → (x : OfficeState) × P x × IsJournalOf x (whole_lines text)
 
--- whatever a stop leaves of the record leads to exactly this state
-abbrev pub IsRecordOf : (Text → Type 0) → OfficeState → Type 0
-IsRecordOf found s = LeavesRecord found (λ x. x ≡ s)
+-- The record is known and complete: each text that a stop may leave consists of whole lines, and leads to exactly this state.
+pub record IsRecordOf (found : Text → Type 0) (s : OfficeState) : Type 0 where
+  pub known : (text : Text) × found text
+  pub whole : (text : Text) → found text → whole_lines text ≡ text
+  pub leads : LeavesRecord found (λ x. x ≡ s)
 
 -- ---- requests and the record
 

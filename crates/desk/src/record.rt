@@ -2,7 +2,7 @@
 //!
 //! Each accepted request is recorded before it is acknowledged. Once a record has failed, nothing more is recorded.
 
-ghost use Rattle.std.specs.Prelude.{◌≡◌, Bool, IfErr, OnErr, OnOk, true, false, ⊥};
+ghost use Rattle.std.specs.Prelude.{◌≡◌, Bool, IfErr, OnErr, OnOk, true, false};
 ghost use Rattle.clap.specs.Words.{Text};
 ghost use Rattle.desk.specs.Records.{Records};
 
