@@ -29,3 +29,4 @@ mod ContentLemmas
 mod RecordLemmas
 mod SameLemmas
 mod ScriptContinues
+mod RequestLemmas
