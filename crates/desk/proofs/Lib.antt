@@ -29,3 +29,8 @@ mod FormLemmas
 mod MendLemmas
 mod WholeLineLemmas
 mod SecondLemmas
+mod ContentLemmas
+mod ScriptRecordLemmas
+mod SameLemmas
+mod ScriptContinues
+mod RequestLemmas
