@@ -6,11 +6,11 @@ use Rattle.sqlite.specs.State.{State}
 use Rattle.register.specs.Offices.{OfficeState}
 use Rattle.tables.specs.declared.fault.Fault.TheVariants.{Memory}
 use Rattle.office.specs.Answers.{IsOpenAt}
-use Rattle.desk.specs.Lexing.{IsFaultOfLines, IsReplayOf}
+use Rattle.desk.specs.Lexing.{IsFaultOfLines, IsReplayOfBy}
 use Rattle.desk.specs.Folders.{File, Folder, HoldsText, IsFileAt}
-use Rattle.desk.specs.Headline.{Course, IsDone, IsStopped, IsUnsent, ended}
+use Rattle.desk.specs.Headline.{Course, IsDoneBy, IsStopped, IsUnsent, ended}
 use Rattle.desk.specs.Pages.{Cut, Page, failed, goes_on, script_page}
-use Rattle.desk.specs.Parts.{ComesTo, IsUnreadScript}
+use Rattle.desk.specs.Parts.{IsUnreadScript}
 use Rattle.desk.specs.Told.{IsRefusedScript}
 use Rattle.desk.specs.declared.orders.Job.TheVariants as job
 use Rattle.desk.specs.declared.orders.ReplayOrder.{ReplayOrder}
@@ -73,24 +73,20 @@ unsent_ended : (Tells : Page → Type 0) (old : State) (closed : Bool) (st : Sta
 unsent_ended Tells old closed st s page cut other why = inr (page, cut, refl, (λ goes. absurd (stops_at page other goes)), why)
 
 -- a script's file at a path, and an office that is open in the given state
-module _ (folder : Folder) (s : OfficeState) (asked : ReplayOrder) (file : File) (found : IsFileAt folder (Some asked.file.now) file) (old : State) (closed : Bool) (st : State) where
-  out_of_memory : (page : Page) (cut : Cut) → page ≡ failed (Office Memory) → IsOpenAt s closed st → IsDone old closed st folder s (job.Replay asked) (ended None [] 0 page cut)
+module _ (recorded : Bool) (folder : Folder) (s : OfficeState) (asked : ReplayOrder) (file : File) (found : IsFileAt folder (Some asked.file.now) file) (old : State) (closed : Bool) (st : State) where
+  out_of_memory : (page : Page) (cut : Cut) → page ≡ failed (Office Memory) → IsOpenAt s closed st → IsDoneBy recorded old closed st folder s (job.Replay asked) (ended None [] 0 page cut)
   out_of_memory page cut is here = inr (unsent_ended _ old closed st s page cut (unread_ends page (inr is)) (inr (Memory, is, (inl refl, inl (record { memory = refl; open_at = here })))))
 
   -- the outcome of a script that can't be read
-  pub replay_unread : (page : Page) (cut : Cut) → IsUnreadScript page → IsOpenAt s closed st → ComesTo cut page (IsDone old closed st folder s (job.Replay asked))
-  replay_unread page cut why here = (
-    [],
-    0,
-    elim (refused_script asked.cut file page why) [
-      | inl refused ↦ inr (unsent_ended _ old closed st s page cut (unread_ends page why) (inl ((file, found, refused), here)))
-      | inr memory ↦ out_of_memory page cut memory here
-    ],
-  )
+  pub replay_unread : (page : Page) (cut : Cut) → IsUnreadScript page → IsOpenAt s closed st → IsDoneBy recorded old closed st folder s (job.Replay asked) (ended None [] 0 page cut)
+  replay_unread page cut why here = elim (refused_script asked.cut file page why) [
+    | inl refused ↦ inr (unsent_ended _ old closed st s page cut (unread_ends page why) (inl ((file, found, refused), here)))
+    | inr memory ↦ out_of_memory page cut memory here
+  ]
 
   -- the outcome if a line isn't understood or an allocation fails
   replay_fault : (lines : List Typed) (left_out : Bool) (fault : ScriptFault) (cut : Cut) → IsFaultOfLines lines fault → HoldsText file (AreTyped asked.cut lines left_out)
-      → IsOpenAt s closed st → IsDone old closed st folder s (job.Replay asked) (ended None [] 0 (script_page fault) cut)
+      → IsOpenAt s closed st → IsDoneBy recorded old closed st folder s (job.Replay asked) (ended None [] 0 (script_page fault) cut)
   replay_fault lines left_out script.Memory cut is holds here = out_of_memory (script_page script.Memory) cut refl here
   replay_fault lines left_out (script.ScriptLine number flaw) cut is holds here =
       inr (unsent_ended _ old closed st s (script_page (script.ScriptLine number flaw)) cut (λ zero. absurd (omega arith))
@@ -98,10 +94,10 @@ module _ (folder : Folder) (s : OfficeState) (asked : ReplayOrder) (file : File)
 
   -- the outcome of a script's lines
   pub replay_of : (lines : List Typed) (left_out : Bool) (c : Course) → HoldsText file (AreTyped asked.cut lines left_out)
-      → IsReplayOf left_out asked.keep_going folder s lines c old closed st → IsDone old closed st folder s (job.Replay asked) c
+      → IsReplayOfBy recorded left_out asked.keep_going folder s lines c old closed st → IsDoneBy recorded old closed st folder s (job.Replay asked) c
   replay_of lines left_out c holds (inl (turns, are, begun)) = inl (turns, left_out, (file, found, holds_turns asked.cut file lines left_out turns are holds), begun)
   replay_of lines left_out c holds (inr (why, cut, is, wrong, here)) =
-      subst (λ e. IsDone old closed st folder s (job.Replay asked) e) (sym is) (replay_fault lines left_out why cut wrong holds here)
+      subst (λ e. IsDoneBy recorded old closed st folder s (job.Replay asked) e) (sym is) (replay_fault lines left_out why cut wrong holds here)
 
 pub no_output : (fault : ScriptFault) → (script_page fault).out ≡ []
 no_output script.Memory = refl

@@ -29,7 +29,7 @@ use Rattle.desk.specs.Words.{bad_digest, bad_form, bad_origin, bad_title}
 use Rattle.desk.specs.declared.scripts.ScriptFault.{ScriptFault}
 use Rattle.desk.specs.declared.scripts.ScriptFault.TheVariants as script
 use Rattle.desk.specs.declared.lines.Failure.{Failure}
-use Rattle.desk.specs.declared.lines.Failure.TheVariants.{Office, Output, CopyTaken, CopyFailed, BeingServed, FileGone}
+use Rattle.desk.specs.declared.lines.Failure.TheVariants.{Office, Output, CopyTaken, CopyFailed, BeingServed, FileGone, SecondRecord}
 use Rattle.desk.specs.declared.words.WordsFault.{WordsFault}
 use Rattle.desk.specs.declared.words.WordsFault.TheVariants as words
 use Rattle.desk.specs.declared.lines.NoForm.{NoForm}
@@ -65,6 +65,7 @@ failure_number CopyTaken = 109
 failure_number CopyFailed = 110
 failure_number BeingServed = 111
 failure_number FileGone = 113
+failure_number SecondRecord = 112
 
 -- and the text for it
 abbrev pub failure_text : Failure → Text
@@ -74,6 +75,7 @@ failure_text CopyTaken = codes "copy is there already"
 failure_text CopyFailed = codes "copy not written"
 failure_text BeingServed = codes "office is being served"
 failure_text FileGone = codes "file gone or replaced"
+failure_text SecondRecord = codes "second record"
 
 -- the failure for a copy that wasn't made; an allocation failure is reported as usual
 abbrev pub failure_of : CopyFault → Failure
@@ -233,6 +235,7 @@ page_of (outcome.LotNeeded why) = replied (reason_text why)
 page_of (outcome.Refused why) = refused why
 page_of (outcome.Unread fault) = unread fault
 page_of (outcome.Failed fault) = failed (Office fault)
+page_of outcome.Unrecorded = failed SecondRecord
 page_of (outcome.Uncopied why) = failed (failure_of why)
 page_of outcome.Unjournalled = unjournalled
 page_of (outcome.Unsealed given_out expected) = unsealed given_out expected

@@ -60,6 +60,10 @@ pub mod perform;
 pub mod plain;
 mod printing;
 pub mod progress;
+pub mod record;
+mod request_lines;
+mod same_requests;
+pub mod script_record;
 mod sealing;
 pub mod second_record;
 mod sending;
@@ -76,12 +80,14 @@ pub use lines::{
     tell_slips, tell_words,
 };
 pub use mended_office::{MendTrial, mend_open};
-pub use order_running::follow;
+pub use order_running::{follow, follow_recorded};
 pub use orders::{
     Errand, ExpectedSeal, Form, Job, KeyingFile, MendOrder, Order, Question, ReplayOrder, Task,
 };
 pub use progress::ProgressSink;
+pub use record::{NoRecord, Recorder};
 pub use script_files::files_named_in;
 pub use second_record::{SecondTrial, second_open};
+pub use script_record::{DurableSink, RecordFault, ScriptRecord};
 pub use slips::slips_of;
 pub use words::{WordsFault, order};

@@ -57,6 +57,8 @@ pub(crate) enum LineOutcome {
     Unread(FileFault),
     /// The office reported a fault.
     Failed(Fault),
+    /// A request wasn't recorded a second time, so it isn't acknowledged.
+    Unrecorded,
     /// The copy was not confirmed.
     Uncopied(CopyFault),
     /// The office has no journal: the journal that was written doesn't reproduce the office.
@@ -73,7 +75,8 @@ pub(crate) enum LineOutcome {
 
 /// The reason why the program fails. 101 to 106 and 108 are faults of the office. 107 is an output that failed. 109 is a copy
 /// that already exists, and 110 one that can't be written. 111 is an order that isn't allowed in an office that is being served.
-/// 113 is an office whose file was removed or replaced while it was being served.
+/// 112 is a request that wasn't recorded a second time. 113 is an office whose file was removed or replaced while it was being
+/// served.
 #[derive(Clone, Copy, Debug, PartialEq, Eq, Drop, Error)]
 #[error("{}", self.text())]
 pub enum Failure {
@@ -83,6 +86,7 @@ pub enum Failure {
     CopyFailed,
     BeingServed,
     FileGone,
+    SecondRecord,
 }
 
 impl Failure {
@@ -96,6 +100,7 @@ impl Failure {
             Failure::CopyFailed => 110,
             Failure::BeingServed => 111,
             Failure::FileGone => 113,
+            Failure::SecondRecord => 112,
         }
     }
 
@@ -109,6 +114,7 @@ impl Failure {
             Failure::CopyFailed => "copy not written",
             Failure::BeingServed => "office is being served",
             Failure::FileGone => "file gone or replaced",
+            Failure::SecondRecord => "second record",
         }
     }
 }
@@ -441,6 +447,7 @@ pub(crate) fn tell<O: Sink, E: Sink>(
         LineOutcome::Refused(refusal) => tell_refusal(line, refusal, err),
         LineOutcome::Unread(fault) => tell_file_fault(line, *fault, err),
         LineOutcome::Failed(fault) => tell_failure_at(line, Failure::Office(*fault), err),
+        LineOutcome::Unrecorded => tell_failure_at(line, Failure::SecondRecord, err),
         LineOutcome::Uncopied(fault) => tell_failure_at(line, failure_of(*fault), err),
         LineOutcome::Unjournalled => tell_no_journal(line, err),
         LineOutcome::Unsealed {

@@ -9,7 +9,7 @@ returns-then-left_out-clause-sent g c =
       page = told.page;
       cut = told.cut;
       shown = told.shown;
-      is = λ clean is_open s at. let it = told.is clean is_open s at in (it.0, it.1, rw c.if-left_out.true it.2);
+      is = λ clean is_open s at. let it = told.is clean is_open s at in (it.0, it.1, rw c.if-left_out.true it.2, it.3);
     }
 
 -- the whole script is read
@@ -20,5 +20,5 @@ returns-else-left_out-clause-sent g c =
       page = told.page;
       cut = told.cut;
       shown = told.shown;
-      is = λ clean is_open s at. let it = told.is clean is_open s at in (it.0, it.1, rw c.if-left_out.false it.2);
+      is = λ clean is_open s at. let it = told.is clean is_open s at in (it.0, it.1, rw c.if-left_out.false it.2, it.3);
     }
