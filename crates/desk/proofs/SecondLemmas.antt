@@ -1,8 +1,8 @@
 -- Comparing the office with a second record of it.
-use Rattle.std.proofs.Common.{◌≡◌, ◌⊎◌, ◌∙◌, ◌<◌, ◌≤◌, inl, inr, ℕ, Bool, true, false, List, [], ◌∷◌, ◌++◌, length, map, Option, Some, None, Result, Ok, Err, IfOk, IfErr}
+use Rattle.std.proofs.Common.{◌≡◌, ◌≢◌, ◌⊎◌, ◌∙◌, ◌+◌, ◌<◌, ◌≤◌, inl, inr, ℕ, Bool, true, false, List, [], ◌∷◌, ◌++◌, length, map, get_or, drop, Option, Some, None, Result, Ok, Err, IfOk, IfErr}
 use Rattle.std.proofs.Common.{refl, sym, ap, ap₂, subst, arith}
-use Rattle.std.specs.Prelude.{option_and_then}
-use Rattle.std.proofs.lemmas.List.{length-append}
+use Rattle.std.specs.Prelude.{not, option_and_then}
+use Rattle.std.proofs.lemmas.List.{length-append, length-map}
 use Rattle.clap.specs.Words.{Text}
 use Rattle.register.specs.Offices.{OfficeState}
 use Rattle.register.specs.declared.command.Request.{Request}
@@ -12,13 +12,11 @@ use Rattle.desk.specs.Folders.{File, Folder, HoldsText, IsFileAt}
 use Rattle.desk.specs.Journals.{AreSent, IsScriptOf}
 use Rattle.desk.specs.Mends.{out_of_memory}
 use Rattle.desk.specs.Pages.{Page, printed, unequal, unjournalled}
-use Rattle.desk.specs.Lexing.{IsFaultOfLines}
-use Rattle.desk.specs.Scripts.{AreTurns, Numbered, Typed, lines_of, numbered_from, script_lines, typed_line, whole_lines}
+use Rattle.desk.specs.Scripts.{AreTurns, script_lines, whole_lines}
 use Rattle.desk.specs.Seconds.{HasUngiven, IsCompared, IsDifference, IsNoRecord, IsSecondTold, IsTextTold}
 use Rattle.desk.specs.Seconds.{apart_text, first_ungiven, is_given, more_here_text, more_there_text, record_page, same_text}
 use Rattle.desk.specs.declared.orders.Errand.{Errand}
 use Rattle.desk.specs.declared.orders.Errand.TheVariants as errand
-use Rattle.desk.specs.declared.scripts.ScriptFault.{ScriptFault}
 use Rattle.desk.specs.declared.scripts.ScriptStep.{ScriptStep}
 use Rattle.desk.specs.declared.second_record.NoRecord.{NoRecord}
 use Rattle.desk.specs.declared.second_record.NoRecord.TheVariants as no_record
@@ -75,11 +73,6 @@ ungiven_script text turns are (Ok (Ok v)) why = tt
 ungiven_script text turns are (Ok (Err (no_record.Script f))) why = absurd why
 ungiven_script text turns are (Ok (Err (no_record.Ungiven line))) why = (turns, are, why)
 ungiven_script text turns are (Err e) why = tt
-
--- what is wrong with the text's lines is what is wrong with the script
-pub fault_of_text : (text : Text) (read : List Numbered) (said : List Typed) (why : ScriptFault) → read ≡ numbered_from 1 (lines_of text) → said ≡ map typed_line read → IsFaultOfLines said why
-    → IsFaultOfLines (script_lines text) why
-fault_of_text text read said why is so wrong = subst (λ (lines : List Typed). IsFaultOfLines lines why) (so ∙ ap (map typed_line) is) wrong
 
 -- the page has nothing for the output
 pub no_record_output : (why : NoRecord) → (record_page why).out ≡ []

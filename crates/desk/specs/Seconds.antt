@@ -13,11 +13,11 @@ use Rattle.desk.specs.Headline.{IsFailed}
 use Rattle.desk.specs.Journals.{IsScriptOf}
 use Rattle.desk.specs.Pages.{Page, failed, line_front, printed, script_page, unequal, unjournalled}
 use Rattle.desk.specs.Parts.{IsUnreadScript}
-use Rattle.desk.specs.Lexing.{IsFaultOfLines}
-use Rattle.desk.specs.Scripts.{AreTurns, script_lines, whole_lines}
+use Rattle.desk.specs.Scripts.{AreTurns, IsFirstFlaw, script_lines, whole_lines}
 use Rattle.desk.specs.declared.lines.Failure.{Failure}
 use Rattle.desk.specs.declared.orders.Errand.{Errand}
 use Rattle.desk.specs.declared.orders.Errand.TheVariants as errand
+use Rattle.desk.specs.declared.scripts.ScriptFault.TheVariants as script
 use Rattle.desk.specs.declared.scripts.ScriptStep.{ScriptStep}
 use Rattle.desk.specs.declared.second_record.NoRecord.{NoRecord}
 use Rattle.desk.specs.declared.second_record.NoRecord.TheVariants as no_record
@@ -74,10 +74,11 @@ abbrev pub HasUngiven : List ScriptStep → NoRecord → Type 0
 HasUngiven turns (no_record.Script why) = ⊥
 HasUngiven turns (no_record.Ungiven line) = (turn : ScriptStep) × (first_ungiven turns ≡ Some turn) × (line ≡ turn.line)
 
--- Why a text isn't a script of requests: its first line that isn't understood has the given flaw, or an allocation failed. Or all lines are understood, and the given line has
--- the first order that does something other than send one given request.
+-- Why a text isn't a script of requests: its first line that isn't understood has the given flaw; or all lines are understood, and the given line has the first order that does
+-- something other than send one given request.
 abbrev pub IsNoRecord : Text → NoRecord → Type 0
-IsNoRecord text (no_record.Script why) = IsFaultOfLines (script_lines text) why
+IsNoRecord text (no_record.Script script.Memory) = ⊥
+IsNoRecord text (no_record.Script (script.ScriptLine number flaw)) = IsFirstFlaw (script_lines text) number flaw
 IsNoRecord text (no_record.Ungiven line) = (turns : List ScriptStep) × AreTurns (script_lines text) turns × HasUngiven turns (no_record.Ungiven line)
 
 -- whether a request has this actor and this id

@@ -103,7 +103,10 @@ fn record_in(alloc: Global, text: &[u8]) -> Result<Result<Vec<Request>, NoRecord
     let said = typed_lines(alloc, &lines)?;
     match script_steps(alloc, &said) {
         Ok(turns) => requests_given(alloc, turns),
-        Err(fault) => Ok(Err(NoRecord::Script(fault))),
+        Err(ScriptFault::Memory) => Err(AllocError),
+        Err(ScriptFault::ScriptLine(number, flaw)) => {
+            Ok(Err(NoRecord::Script(ScriptFault::ScriptLine(number, flaw))))
+        }
     }
 }
 
