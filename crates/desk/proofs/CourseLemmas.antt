@@ -10,7 +10,7 @@ use Rattle.register.specs.Machine.{after, after_one}
 use Rattle.register.specs.declared.command.Request.{Request}
 use Rattle.office.specs.Answers.{IsOpenAt, Told}
 use Rattle.desk.specs.Folders.{File, Folder, IsFileAt}
-use Rattle.desk.specs.Headline.{Course, IsAnswered, IsAnsweredBy, IsDoneBy, IsPlayedBy, IsSentBy, IsStopped, IsUnrecorded, IsUnsent, answer, ended, told_above}
+use Rattle.desk.specs.Headline.{Course, IsAnswered, IsAnsweredBy, IsBegunBy, IsDoneBy, IsPlayedBy, IsSentBy, IsStopped, IsUnrecorded, IsUnsent, answer, ended, told_above}
 use Rattle.desk.specs.Pages.{Cut, uncut, cut_behind, cut_error, Page, below, cut_below, empty_page, fronted, goes_on}
 use Rattle.desk.specs.Parts.{IsOver}
 use Rattle.desk.specs.Requests.{Sends, file_of}
@@ -306,9 +306,16 @@ played_since recorded a b closed st keep folder since s (turn ∷ turns) c (file
 played_since recorded a b closed st keep folder since s (turn ∷ turns) c (file, found, inr unsent) =
     (file, found, inr (unsent_since a b closed st keep turn.line (IsTold s turn.errand file) s c since (λ e more. played_since recorded a b closed st keep folder since s turns e more) unsent))
 
+begun_since : (recorded : Bool) (a b : State) (closed : Bool) (st : State) (left_out keep : Bool) (folder : Folder) → TellsSince a b st → (s : OfficeState) (turns : List ScriptStep) (c : Course)
+    → IsBegunBy recorded b closed st left_out keep folder s turns c → IsBegunBy recorded a closed st left_out keep folder s turns c
+begun_since recorded a b closed st false keep folder since s turns c begun = played_since recorded a b closed st keep folder since s turns c begun
+begun_since recorded a b closed st true keep folder since s turns c begun =
+    unsent_since a b closed st false None _ s c since (λ e more. played_since recorded a b closed st keep folder since s turns e more) begun
+
 pub done_since : (recorded : Bool) (a b : State) (closed : Bool) (st : State) (folder : Folder) → TellsSince a b st → (s : OfficeState) (job : Job) (c : Course) → IsDoneBy recorded b closed st folder s job c
     → IsDoneBy recorded a closed st folder s job c
-done_since recorded a b closed st folder since s job c (inl (turns, are, played)) = inl (turns, are, played_since recorded a b closed st (keeps_going job) folder since s turns c played)
+done_since recorded a b closed st folder since s job c (inl (turns, left_out, are, begun)) =
+    inl (turns, left_out, are, begun_since recorded a b closed st left_out (keeps_going job) folder since s turns c begun)
 done_since recorded a b closed st folder since s job c (inr unsent) = inr (unsent_since a b closed st false None _ s c since (λ e never. never) unsent)
 
 -- ---- what is printed if nothing is sent

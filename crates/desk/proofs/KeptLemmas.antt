@@ -22,7 +22,7 @@ use Rattle.store.proofs.ReopenLemmas.{left_holds, left_told}
 use Rattle.office.specs.Answers.{IsMemoryOrStore, Told}
 use Rattle.office.proofs.RunLemmas.{beginning}
 use Rattle.desk.specs.Folders.{Folder}
-use Rattle.desk.specs.Headline.{Course, IsAnswered, IsAnsweredBy, IsDone, IsDoneBy, IsPerformed, IsPlayedBy, IsSentBy, IsStopped, IsUnrecorded, IsUnsent, IsUntouched, Performs, PerformsBy, answer, ended, told_above}
+use Rattle.desk.specs.Headline.{Course, IsAnswered, IsAnsweredBy, IsBegunBy, IsDone, IsDoneBy, IsPerformed, IsPlayedBy, IsSentBy, IsStopped, IsUnrecorded, IsUnsent, IsUntouched, Performs, PerformsBy, answer, ended, told_above}
 use Rattle.desk.specs.Pages.{Cut, uncut, IsShown, Outputs, Page, cut_below, empty_page, fronted, goes_on}
 use Rattle.desk.specs.Scripts.{keeps_going}
 use Rattle.desk.specs.Parts.{ComesTo}
@@ -218,10 +218,16 @@ kept_played recorded old closed st keep folder s (turn ∷ turns) c (file, found
 kept_played recorded old closed st keep folder s (turn ∷ turns) c (file, found, inr unsent) =
     kept_unsent old closed st keep turn.line (IsTold s turn.errand file) s c (λ e more. kept_played recorded old closed st keep folder s turns e more) unsent
 
+kept_begun : (recorded : Bool) (old : State) (closed : Bool) (st : State) (left_out keep : Bool) (folder : Folder) (s : OfficeState) (turns : List ScriptStep) (c : Course)
+    → IsBegunBy recorded old closed st left_out keep folder s turns c → Kept s c st
+kept_begun recorded old closed st false keep folder s turns c begun = kept_played recorded old closed st keep folder s turns c begun
+kept_begun recorded old closed st true keep folder s turns c begun =
+    kept_unsent old closed st false None _ s c (λ e more. kept_played recorded old closed st keep folder s turns e more) begun
+
 -- a job was done in an open office, with a second record or with none
 pub kept_done_by : (recorded : Bool) (old : State) (closed : Bool) (st : State) (folder : Folder) (s : OfficeState) (job : Job) (c : Course) → IsDoneBy recorded old closed st folder s job c
     → Kept s c st
-kept_done_by recorded old closed st folder s job c (inl (turns, are, played)) = kept_played recorded old closed st (keeps_going job) folder s turns c played
+kept_done_by recorded old closed st folder s job c (inl (turns, left_out, are, begun)) = kept_begun recorded old closed st left_out (keeps_going job) folder s turns c begun
 kept_done_by recorded old closed st folder s job c (inr unsent) = kept_unsent old closed st false None _ s c (λ e never. absurd never) unsent
 
 -- a job was done in an open office

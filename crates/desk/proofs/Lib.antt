@@ -27,3 +27,5 @@ mod KeysRead
 mod OverviewLemmas
 mod FormLemmas
 mod MendLemmas
+mod WholeLineLemmas
+mod SecondLemmas

@@ -11,7 +11,7 @@ use Rattle.store.specs.Migrations.{HoldsNoOlder, IsToldInMigration, LeavesOldOrN
 use Rattle.store.specs.declared.migration.Migrated.TheVariants.{Already, Done}
 use Rattle.office.specs.{Answers.IsClosedIn, Answers.IsKeptOpen, Answers.IsMemoryOrStore, Answers.IsOpenAt, Answers.Told, Answers.told_of, Reads.IsClosedReading, Runs.Keeps}
 use Rattle.desk.specs.{Folders.File, Folders.Folder, Folders.IsFileAt, Requests.Sends, Requests.file_of, Scripts.HasSteps, Scripts.keeps_going, Told.IsNoScript, Told.IsTold, Told.page_answered}
-use Rattle.desk.specs.Pages.{Cut, Page, below, cut_below, empty_page, failed, fronted, goes_on, migrated_text, replied, uncut}
+use Rattle.desk.specs.Pages.{Cut, Page, below, cut_below, cut_note, empty_page, failed, fronted, goes_on, migrated_text, replied, uncut}
 use Rattle.desk.specs.declared.{lines.Failure.TheVariants.Office, lines.Failure.TheVariants.SecondRecord, orders.Job.Job, orders.Task.Task, scripts.ScriptStep.ScriptStep}
 use Rattle.desk.specs.declared.orders.Task.TheVariants as task
 
@@ -95,11 +95,16 @@ module _ (recorded : Bool) (old : State) (closed : Bool) (st : State) where
       × IsSentBy keep turn.line (page_answered turn.errand) (λ next. IsPlayedBy keep folder next turns) s requests course)
       ⊎ IsUnsent old closed st keep turn.line (IsTold s turn.errand file) (IsPlayedBy keep folder s turns) s course)
 
+  -- Steps are run. If the end of their script is left out, a note says so first, and no step is run unless it was written.
+  abbrev pub IsBegunBy : Bool → Bool → Folder → OfficeState → List ScriptStep → Course → Type 0
+  IsBegunBy false keep folder s turns course = IsPlayedBy keep folder s turns course
+  IsBegunBy true keep folder s turns course = IsUnsent old closed st false None (λ page. page ≡ cut_note) (IsPlayedBy keep folder s turns) s course
+
   -- A job is done in the open office: its steps are run; with `keep_going`, the job continues after refusals. Or the page says why the job's text isn't a script. Or the
   -- page reports a fault.
   abbrev pub IsDoneBy : Folder → OfficeState → Job → Course → Type 0
-  IsDoneBy folder s job course = ((turns : List ScriptStep) × HasSteps folder job turns
-      × IsPlayedBy (keeps_going job) folder s turns course) ⊎ IsUnsent old closed st false None (IsNoScript folder job) (λ rest. ⊥) s course
+  IsDoneBy folder s job course = ((turns : List ScriptStep) × (left_out : Bool) × HasSteps folder job left_out turns
+      × IsBegunBy left_out (keeps_going job) folder s turns course) ⊎ IsUnsent old closed st false None (IsNoScript folder job) (λ rest. ⊥) s course
 
 -- The same in an office with no second record.
 module _ (old : State) (closed : Bool) (st : State) where
@@ -108,6 +113,9 @@ module _ (old : State) (closed : Bool) (st : State) where
 
   abbrev pub IsPlayed : Bool → Folder → OfficeState → List ScriptStep → Course → Type 0
   IsPlayed = IsPlayedBy false old closed st
+
+  abbrev pub IsBegun : Bool → Bool → Folder → OfficeState → List ScriptStep → Course → Type 0
+  IsBegun = IsBegunBy false old closed st
 
   abbrev pub IsDone : Folder → OfficeState → Job → Course → Type 0
   IsDone = IsDoneBy false old closed st

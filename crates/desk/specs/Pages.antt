@@ -168,6 +168,14 @@ unformed why = record { out = []; err = joined (codes "no form: " ∷ no_form_te
 abbrev pub unmended : Text → Page
 unmended text = record { out = []; err = text; status = 1 }
 
+-- the page that says that a second record and the office aren't the same, and how they differ
+abbrev pub unequal : Text → Page
+unequal text = record { out = []; err = text; status = 1 }
+
+-- the page that says that the end of a script was cut, and isn't read
+abbrev pub cut_note : Page
+cut_note = record { out = []; err = codes "note: the last line was cut, and is left out\n"; status = 0 }
+
 -- the note that a request was accepted earlier, and that its content had no effect this time
 abbrev pub note_line : Text → Text
 note_line id = joined (codes "note: " ∷ id ∷ codes " was kept before with other words; nothing was changed\n" ∷ [])
@@ -233,6 +241,7 @@ page_of outcome.Unjournalled = unjournalled
 page_of (outcome.Unsealed given_out expected) = unsealed given_out expected
 page_of (outcome.Unformed why) = unformed why
 page_of (outcome.Unmended text) = unmended (string_bytes text)
+page_of (outcome.Unequal text) = unequal (string_bytes text)
 
 -- the page that says why words aren't an order: help is printed to the output, and what is wrong with the words to the error output
 abbrev pub words_page : WordsFault → Page

@@ -1,5 +1,5 @@
 -- Proof that `follow_recorded` meets its contract.
-use Rattle.std.proofs.Common.{inl, refl}
+use Rattle.std.proofs.Common.{false, inl, refl}
 use Rattle.desk.proofs.order_running.follow_recorded.Goals as goal
 
 pub returns-in-Run-clause-did : goal.returns-in-Run-clause-did
@@ -9,7 +9,7 @@ returns-in-Run-clause-did g c =
       page = told.page;
       cut = told.cut;
       shown = told.shown;
-      is = λ clean is_open s at. let it = told.is clean is_open s at in (it.0, it.1, rw c.in-Run.is (inl (_, refl, it.2)), it.3);
+      is = λ clean is_open s at. let it = told.is clean is_open s at in (it.0, it.1, rw c.in-Run.is (inl (_, false, (refl, refl), it.2)), it.3);
     }
 
 pub returns-in-Replay-clause-did : goal.returns-in-Replay-clause-did

@@ -8,7 +8,7 @@ use Rattle.desk.proofs.order_running.run_script.Goals as goal
 
 pub returns-in-Ok-clause-sent : goal.returns-in-Ok-clause-sent
 returns-in-Ok-clause-sent g c =
-    let told = c.run_steps.ensures.sent in
+    let told = c.begin_steps.ensures.sent in
     record {
       page = told.page;
       cut = told.cut;
