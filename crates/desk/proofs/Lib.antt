@@ -26,7 +26,7 @@ mod OverviewLemmas
 mod FormLemmas
 mod MendLemmas
 mod ContentLemmas
-mod RecordLemmas
+mod ScriptRecordLemmas
 mod SameLemmas
 mod ScriptContinues
 mod RequestLemmas

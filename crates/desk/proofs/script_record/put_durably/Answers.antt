@@ -1,5 +1,5 @@
 -- Proof that `put_durably` meets its contract.
-use Rattle.desk.proofs.RecordLemmas.{flush_failed}
+use Rattle.desk.proofs.ScriptRecordLemmas.{flush_failed}
 use Rattle.desk.proofs.script_record.put_durably.Goals as goal
 
 -- the flush failed

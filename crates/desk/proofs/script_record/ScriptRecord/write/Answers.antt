@@ -1,6 +1,6 @@
 -- Proof that `write` meets its contract.
 use Rattle.std.proofs.Common.{string_bytes}
-use Rattle.desk.proofs.RecordLemmas.{records_all, records_some}
+use Rattle.desk.proofs.ScriptRecordLemmas.{records_all, records_some}
 use Rattle.desk.proofs.script_record.ScriptRecord.write.Goals as goal
 
 -- the entry was appended and flushed
