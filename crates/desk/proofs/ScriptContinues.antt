@@ -7,7 +7,7 @@ use Rattle.std.proofs.lemmas.List.Folds.{list_any-append}
 use Rattle.clap.specs.Words.{Text}
 use Rattle.register.specs.declared.command.Request.{Request}
 use Rattle.desk.specs.Journals.{AreSent, IsScriptOf}
-use Rattle.desk.specs.Records.{whole_lines, whole_lines_from}
+use Rattle.desk.specs.Scripts.{whole_lines, whole_lines_from}
 use Rattle.desk.specs.RequestLines.{IsWholeLine}
 use Rattle.desk.specs.Scripts.{AreTurns, Numbered, Typed, behind_byte_order_mark, lines_from, lines_of, numbered_from, passes_over, script_lines, typed_line, words_of}
 use Rattle.desk.specs.declared.orders.Errand.{Errand}

@@ -9,7 +9,8 @@ use Rattle.register.specs.declared.command.Request.{Request}
 use Rattle.clap.specs.Words.{Text}
 use Rattle.office.specs.Runs.{LeadTo, are_accepted}
 use Rattle.desk.specs.Journals.{IsJournalOf, IsScriptOf}
-use Rattle.desk.specs.Records.{Appended, AppendsAll, AppendsSome, FlushesAll, IsLeftOf, IsRecordOf, Leaves, LeavesRecord, Records, whole_lines}
+use Rattle.desk.specs.Records.{Appended, AppendsAll, AppendsSome, FlushesAll, IsLeftOf, IsRecordOf, Leaves, LeavesRecord, Records}
+use Rattle.desk.specs.Scripts.{whole_lines}
 use Rattle.desk.specs.RequestLines.{IsComment, IsEntryOf, IsLineOf, IsWholeLine}
 use Rattle.desk.specs.ScriptRecords.{PutsAll}
 use Rattle.desk.proofs.ContentLemmas.{same_step}
