@@ -1,5 +1,5 @@
 -- Requests from clients, and orders, processed in one office, one at a time, and what is kept of them.
-use Rattle.std.specs.Prelude.{◌≡◌, ◌⊎◌, ⊤, Bool, true, false, List, [], ◌∷◌, ◌++◌, Option, Some, length, ℕ}
+use Rattle.std.specs.Prelude.{◌≡◌, ◌⊎◌, ⊤, Bool, true, false, List, [], ◌∷◌, ◌++◌, None, Option, Some, length, ℕ}
 use Rattle.sqlite.specs.Held.{Held}
 use Rattle.sqlite.specs.State.{HasCleanDisk, State}
 use Rattle.clap.specs.Words.{Text}
@@ -17,7 +17,7 @@ use Rattle.wire.specs.Requests.{HttpRequestEntry, Asks, console, denied, keying,
 use Rattle.wire.specs.Gates.{HttpSettingsEntry, IsAuthentication, AuthenticationEntry}
 use Rattle.wire.specs.Responses.{fault_response, waits_response}
 use Rattle.wire.specs.Told.{IsTold, IsWritten}
-use Rattle.wire.specs.Serving.{IsHandedOn, IsServed, Readies, ReadiesClosed, ReadiesFor, TellsFault, TellsFor, closed_response}
+use Rattle.wire.specs.Serving.{AcceptsKeying, IsHandedOn, IsServed, Readies, ReadiesClosed, ReadiesFor, TellsFault, TellsFor, closed_response}
 use Rattle.wire.specs.declared.serving.Served.{Served}
 use Rattle.wire.specs.declared.target.Resource.{Resource}
 use Rattle.desk.specs.Records.{IsRecordOf, LeavesRecord, Records}
@@ -70,27 +70,23 @@ KeepsReads settings state_of old got new =
     ⊎ (((asked : HttpRequestEntry) × Asks settings got asked × ChangesNothing asked)
     × WhenOpenAt state_of old.office new.office (λ s. AreReadAt s old.kept.reads → AreReadAt s new.kept.reads × IsReadAt s new.office.closed (state_of new.office.held)))
 
--- A clerk's keying was sent to the office, which was open and accepted it. It was recorded before the response was sent.
-pub record IsKeyingRecorded {S R : Type 0} (settings : HttpSettingsEntry) (view : ServedView S R) (old : ServedOffice S R) (got : List ℕ) (new : ServedOffice S R) : Type 0 where
+-- the request that the office accepted for a keying, if any, was recorded; if it accepted none, the record is unchanged
+abbrev pub RecordsAccepted : {S R : Type 0} → ServedView S R → R → R → Option Request → Type 0
+RecordsAccepted view old new (Some request) = (view.failed new ≡ false) × Records request (view.found old) (view.found new) (view.failed new)
+RecordsAccepted view old new None = new ≡ old
+
+-- A clerk's keying was sent to the office, and if the office accepted it, it was recorded before the response was sent. The record hadn't failed before.
+pub record IsKeyingSent {S R : Type 0} (settings : HttpSettingsEntry) (view : ServedView S R) (old : ServedOffice S R) (exchange : Exchange) (new : ServedOffice S R) : Type 0 where
   pub clerk : ℕ
   pub batch : ℕ
   pub entry : KeyingEntry
-  pub request : Request
-  pub asks : Asks settings got (keying clerk batch entry)
-  pub handed : IsHandedOn clerk batch entry request
-  pub was_open : old.office.closed ≡ false
-  pub accepted : WhenOpenAt view.state_of old.office new.office
-      (λ s. (is_accepted (step_of s request) ≡ true) × IsOpenAt (after_one s request) new.office.closed (view.state_of new.office.held))
+  pub asks : Asks settings exchange.got (keying clerk batch entry)
+  pub accepted : Option Request
+  pub answered : WhenOpenAt view.state_of old.office new.office
+      (λ s. EndsSo exchange (IsServed (λ response. AcceptsKeying s clerk batch entry response accepted new.office.closed (view.state_of new.office.held))))
+  pub none_closed : old.office.closed ≡ true → accepted ≡ None
   pub had_not_failed : view.failed old.kept.recorder ≡ false
-  pub has_not_failed : view.failed new.kept.recorder ≡ false
-  pub recorded : Records request (view.found old.kept.recorder) (view.found new.kept.recorder) (view.failed new.kept.recorder)
-
--- what a client's request leaves of the record: its keying was recorded; or the record is unchanged, and so is the office's state, if the office is still open
-abbrev pub KeepsRecord : {S R : Type 0} → HttpSettingsEntry → ServedView S R → ServedOffice S R → List ℕ → ServedOffice S R → Type 0
-KeepsRecord settings view old got new =
-    IsKeyingRecorded settings view old got new
-    ⊎ ((new.kept.recorder ≡ old.kept.recorder)
-    × WhenOpenAt view.state_of old.office new.office (λ s. new.office.closed ≡ false → IsOpenAt s new.office.closed (view.state_of new.office.held)))
+  pub recorded : RecordsAccepted view old.kept.recorder new.kept.recorder accepted
 
 -- no keying is sent to the office: the request changes nothing, or an allocation failed before the office was asked
 abbrev pub SendsNothing : {S R : Type 0} → HttpSettingsEntry → ServedOffice S R → Exchange → ServedOffice S R → Type 0
@@ -98,16 +94,21 @@ SendsNothing settings old exchange new =
     ((asked : HttpRequestEntry) × Asks settings exchange.got asked × ChangesNothing asked)
     ⊎ (EndsSo exchange (IsServed (IsWritten (fault_response 101))) × (new.office ≡ old.office))
 
+-- what a client's request leaves of the record: it is unchanged, and no keying was sent to the office; or the client's keying was sent, and recorded if it was accepted
+abbrev pub KeepsRecord : {S R : Type 0} → HttpSettingsEntry → ServedView S R → ServedOffice S R → Exchange → ServedOffice S R → Type 0
+KeepsRecord settings view old exchange new =
+    ((new.kept.recorder ≡ old.kept.recorder) × SendsNothing settings old exchange new) ⊎ IsKeyingSent settings view old exchange new
+
 -- A client was served, by the office or from the cache. If the office was open and the cache was correct, the response answers the client's request, with the state
--- that the request left. If the office was closed, the response says so. An accepted keying was recorded; once the record has failed, no keying is sent to the office.
+-- that the request left. If the office was closed, the response says so. A keying is sent to the office only if the record hasn't failed; and if it is accepted, it is
+-- recorded.
 pub record ServesClient {S R : Type 0} (settings : HttpSettingsEntry) (view : ServedView S R) (old : ServedOffice S R) (exchange : Exchange) (new : ServedOffice S R) : Type 0 where
   pub serves : WhenOpenAt view.state_of old.office new.office
       (λ s. AreReadAt s old.kept.reads → EndsSo exchange (IsServed (λ response. ReadiesFor settings (Some exchange.got) s response new.office.closed (view.state_of new.office.held))))
   pub keeps : KeepsReads settings view.state_of old exchange.got new
   pub turned_away : old.office.closed ≡ true → EndsSo exchange (IsServed (ReadiesClosed settings (Some exchange.got))) × (new.office ≡ old.office)
   pub clean : HasCleanDisk (view.state_of new.office.held) → HasCleanDisk (view.state_of old.office.held)
-  pub record_kept : KeepsRecord settings view old exchange.got new
-  pub once_failed : view.failed old.kept.recorder ≡ true → SendsNothing settings old exchange new
+  pub record_kept : KeepsRecord settings view old exchange new
 
 -- the response says that the client must wait
 abbrev pub IsWaitResponse : Exchange → Type 0

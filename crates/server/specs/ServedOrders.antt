@@ -145,7 +145,8 @@ BeginsUnfailed failed other = ⊤
 -- read. An order that isn't carried out leaves it unchanged.
 abbrev pub IsOrderOutcome : RecordChange → State → Bool → State → Folder → OfficeState → ServedOrder → Cut → Page → Type 0
 IsOrderOutcome change old closed st folder s (asked.Do job) cut page =
-    ComesToRecorded cut page (λ requests answered. IsRecorded s requests answered change.old change.new change.has_failed) (IsDoneBy change.has_failed old closed st folder s job)
+    ComesToRecorded cut page (λ requests answered. change.had_failed ≡ false → IsRecorded s requests answered change.old change.new change.has_failed)
+    (IsDoneBy change.has_failed old closed st folder s job)
 IsOrderOutcome change old closed st folder s (asked.Copy path) cut page = IsCopyTold s page × IsReadAt s closed st × change.same
 IsOrderOutcome change old closed st folder s asked.Journal cut page = IsJournalTold s page × IsReadAt s closed st × change.same
 IsOrderOutcome change old closed st folder s (asked.Mend mending) cut page = IsMendPage s mending page × IsReadAt s closed st × change.same
