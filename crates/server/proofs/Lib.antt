@@ -4,6 +4,7 @@ pub mod FrameSinkLemmas
 pub mod ReadLemmas
 pub mod OrderLemmas
 mod DestinationLemmas
+pub mod RecordLemmas
 pub mod KeptLemmas
 pub mod AnswerLemmas
 pub mod ConsoleLemmas

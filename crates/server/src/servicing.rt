@@ -205,12 +205,12 @@ fn answer_clerk<S: Alter, R: Recorder>(
         return unrecorded_response(kept.alloc);
     }
     let HandledKeying { response, accepted } = handle_keying(kept.alloc, office, keying);
-    let Some(request) = accepted else {
-        return written(kept.alloc, &response);
-    };
-    match kept.recorder.record(&request) {
-        Ok(()) => written(kept.alloc, &response),
-        Err(Broken) => unrecorded_response(kept.alloc),
+    match accepted {
+        None => written(kept.alloc, &response),
+        Some(request) => match kept.recorder.record(&request) {
+            Ok(()) => written(kept.alloc, &response),
+            Err(Broken) => unrecorded_response(kept.alloc),
+        },
     }
 }
 

@@ -45,7 +45,7 @@ done-accepted (accepted next reply) = refl
 done-accepted (kept reply) = refl
 done-accepted (refused why) = refl
 
-unaccepted-same : (s : OfficeState) (outcome : Outcome) → is_accepted outcome ≡ false → state_after s outcome ≡ s
+pub unaccepted-same : (s : OfficeState) (outcome : Outcome) → is_accepted outcome ≡ false → state_after s outcome ≡ s
 unaccepted-same s (accepted next reply) is = absurd (true≢false is)
 unaccepted-same s (kept reply) is = refl
 unaccepted-same s (refused why) is = refl
