@@ -11,7 +11,6 @@ use Rattle.desk.specs.Pages.{Cut, Page, fronted}
 use Rattle.desk.specs.Scripts.{keeps_going}
 use Rattle.desk.specs.Told.{IsTold, page_answered}
 use Rattle.desk.specs.declared.orders.Job.{Job}
-use Rattle.desk.specs.declared.scripts.ScriptStep.{ScriptStep}
 use Rattle.desk.proofs.CourseLemmas.{plain_answer, split_answer, unrecorded_answer}
 
 -- ---- an office that is still open
@@ -67,7 +66,7 @@ module _ (recorded : Bool) (old : State) (closed : Bool) (st : State) where
   open_unsent keep line Tells s c so (inr (page, cut, is, ends, inl told)) = subst (IsOpenBy s) (sym is) (λ was. inl told.1)
   open_unsent keep line Tells s c so (inr (page, cut, is, ends, inr stopped)) = subst (IsOpenBy s) (sym is) (λ was. inl (open_stopped s page stopped was))
 
-  open_played : (keep : Bool) (folder : Folder) (s : OfficeState) (turns : List ScriptStep) (c : Course) → IsPlayedBy recorded old closed st keep folder s turns c → IsOpenBy s c
+  open_played : (keep : Bool) (folder : Folder) (s : OfficeState) (turns : List _) (c : Course) → IsPlayedBy recorded old closed st keep folder s turns c → IsOpenBy s c
   open_played keep folder s [] c played = subst (IsOpenBy s) (sym played.0) (λ was. inl played.1)
   open_played keep folder s (turn ∷ turns) c (file, found, inl (own, sends, sent)) =
       open_sent keep turn.line (page_answered turn.errand) (λ x e more. open_played keep folder x turns e more) s own c sent
@@ -101,7 +100,7 @@ module _ (failed recorded : Bool) (fails : failed ≡ true → recorded ≡ true
   unsent_recorded keep line Tells s c so (inl (page, rest, told, goes, is, later)) = inl (page, rest, told, goes, is, so rest later)
   unsent_recorded keep line Tells s c so (inr it) = inr it
 
-  played_recorded : (keep : Bool) (folder : Folder) (s : OfficeState) (turns : List ScriptStep) (c : Course) → IsPlayedBy failed old closed st keep folder s turns c
+  played_recorded : (keep : Bool) (folder : Folder) (s : OfficeState) (turns : List _) (c : Course) → IsPlayedBy failed old closed st keep folder s turns c
       → IsPlayedBy recorded old closed st keep folder s turns c
   played_recorded keep folder s [] c played = played
   played_recorded keep folder s (turn ∷ turns) c (file, found, inl (own, sends, sent)) = (
