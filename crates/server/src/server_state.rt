@@ -35,6 +35,20 @@ impl<R> ServerState<R> {
         }
     }
 
+    /// Returns the recorder.
+    pub fn into_recorder(self) -> R
+        ensures { result ≡ self.recorder }
+    {
+        let ServerState {
+            alloc: _,
+            routes: _routes,
+            reads: _reads,
+            limit: _limit,
+            recorder,
+        } = self;
+        recorder
+    }
+
     /// Returns whether a client must wait at the given time: its code is wrong, and the rate limit is reached.
     pub fn must_wait(&self, authentication: Option<Authentication>, now: u64) -> bool
         ensures { result ≡ must_wait (option_map authentication_entry authentication) now (limit_entry self.now.limit) }

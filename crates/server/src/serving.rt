@@ -437,8 +437,7 @@ pub fn serve_recorded<D: Network, A: ServedFile, S: Alter, R: Recorder>(
     };
     let ended = serve_rounds(network, serving, &mut table, office, &mut kept);
     close_all(network, &mut table);
-    let ServerState { recorder, .. } = kept;
-    (ended, recorder)
+    (ended, kept.into_recorder())
 }
 
 /// Serves like [`serve_recorded`], without a second record.
