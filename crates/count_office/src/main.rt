@@ -17,6 +17,8 @@
 #![tactic(auto)]
 
 ghost use Rattle.std.specs.Prelude.{◌≡◌, ◌+◌, ◌-◌, ◌^◌, ◌<◌, IfSome, None, Some};
+ghost use Rattle.std.specs.Borrow.{Bor};
+ghost use Rattle.clap.specs.Words.{Text};
 ghost use Rattle.sqlite.specs.Effect.{Database};
 ghost use Rattle.sqlite.specs.Held.{state};
 ghost use Rattle.sqlite.specs.State.{HasCleanDisk};
@@ -28,6 +30,7 @@ ghost use Rattle.desk.specs.Journals.{IsJournalTold, IsToldElsewhere};
 ghost use Rattle.desk.specs.Mends.{IsMendPage};
 ghost use Rattle.desk.specs.declared.orders.MendOrder.{MendOrder};
 ghost use Rattle.desk.specs.Pages.{IsErrorTold, Tells, outputs_of};
+ghost use Rattle.desk.specs.Seconds.{IsSecondPage};
 ghost use Rattle.connections.specs.Streams.{stream_of};
 ghost use Rattle.count_office.specs.Done.{IsDone};
 ghost use Rattle.count_office.specs.Serving.{ServesOrder};
@@ -58,6 +61,8 @@ mod file_watch;
 mod mends;
 mod new_file;
 mod served_file;
+// an office and a second record of it
+mod seconds;
 // the two outputs
 mod screen;
 // what is printed in addition for a person at a terminal
@@ -79,6 +84,7 @@ use order_run::OrderRun;
 use path_state::PathState;
 use remarks::perform_and_remark;
 use screen::Screen;
+use seconds::second;
 use serving::{Serving, serve};
 use sqlite::{Alter, Connection, ErrorCode, FileStore, Files};
 use sqlite_disk::Disk;
@@ -166,6 +172,9 @@ fn dispatch_order<H: Host, S: Alter, O: Sink, E: Sink>(
     ensures mends { (asked : MendOrder) → order.now ≡ Order.Mend asked → (let outputs = outputs_of O.taken O.failed E.taken E.failed in
         Tells (outputs out.old err.old) (outputs out.new err.new) result.0 (λ _ page. HasCleanDisk (state S.Store result.1) → (db : Database) → RestsAt db (state S.Store conn)
         → (s : OfficeState) → IsLeftAt s db → IsMendPage s asked page)) }
+    ensures seconds { (path : Bor Text) → order.now ≡ Order.Second path → (let outputs = outputs_of O.taken O.failed E.taken E.failed in
+        Tells (outputs out.old err.old) (outputs out.new err.new) result.0 (λ _ page. HasCleanDisk (state S.Store result.1) → (db : Database) → RestsAt db (state S.Store conn)
+        → (s : OfficeState) → IsLeftAt s db → IsSecondPage s path.now page)) }
     ensures serves { (serving : Serving) → order.now ≡ Order.Serve serving.port serving.connections serving.origin serving.codes serving.public
         → (out.new ≡ out.old) × ServesOrder (IsErrorTold E.taken E.failed err.old err.new) (err.new ≡ err.old) result.0 serving (H.codes_at host.old) (H.file host.old)
         (stream_of H.Sockets.Stream.held H.Sockets.Stream.taken H.Sockets.Stream.failed) (state S.Store) (H.known host.old) (H.known host.new) conn result.1 }
@@ -197,6 +206,13 @@ fn dispatch_order<H: Host, S: Alter, O: Sink, E: Sink>(
         }
         Order::Copy { path } => copy(rt, conn, path, out, err),
         Order::Journal => journal(rt, conn, out, err),
+        Order::Second { path } => {
+            let paths = LocalFolder {
+                rt,
+                brought: place.brought,
+            };
+            second(paths, conn, path, out, err)
+        }
         Order::Mend(asked) => {
             let old = OldOffice {
                 rt,

@@ -1,7 +1,7 @@
 //! The words of an order, and the bytes of the files that it reads. They are read with the permissions of the person who gives
 //! the order, and in that person's directory, before the order is sent to the program that serves the database.
 
-use desk::{Folder, Job, Order, Task, files_named_in};
+use desk::{Folder, Job, Order, ReplayOrder, Task, files_named_in};
 use order_protocol::{MAX_MESSAGE, is_message_len};
 use std::alloc::{AllocError, Global};
 use std::fs::File;
@@ -69,15 +69,19 @@ fn read_file_once(
     Ok(())
 }
 
-/// Returns the paths that the script names. The script is the first of the given files.
-fn named_by(alloc: Global, files: &[OrderPart]) -> Result<Vec<String>, AllocError> {
+/// Returns the paths that the script of an order names. The script is the first of the given files.
+fn named_by(
+    alloc: Global,
+    files: &[OrderPart],
+    asked: ReplayOrder<'_>,
+) -> Result<Vec<String>, AllocError> {
     match files.first() {
         Some(
             OrderPart {
                 bytes: Some(script),
                 ..
             },
-        ) => files_named_in(alloc, script),
+        ) => files_named_in(alloc, script, asked.cut),
         _ => Ok(Vec::new(alloc)),
     }
 }
@@ -92,8 +96,8 @@ fn files_of(rt: &HostRuntime, order: &Order<'_>) -> Result<Vec<OrderPart>, Alloc
     if let Some(path) = task.file() {
         read_file_once(rt, &mut files, path)?;
     }
-    if let Task::InOffice(Job::Replay { .. }) = task {
-        for path in named_by(rt.alloc(), &files)? {
+    if let Task::InOffice(Job::Replay(asked)) = task {
+        for path in named_by(rt.alloc(), &files, *asked)? {
             read_file_once(rt, &mut files, path.as_str())?;
         }
     }

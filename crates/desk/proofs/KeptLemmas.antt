@@ -22,7 +22,7 @@ use Rattle.store.proofs.ReopenLemmas.{left_holds, left_told}
 use Rattle.office.specs.Answers.{IsMemoryOrStore, Told}
 use Rattle.office.proofs.RunLemmas.{beginning}
 use Rattle.desk.specs.Folders.{Folder}
-use Rattle.desk.specs.Headline.{Course, IsAnswered, IsDone, IsPerformed, IsPlayed, IsSent, IsStopped, IsUnsent, IsUntouched, Performs, answer, ended, told_above}
+use Rattle.desk.specs.Headline.{Course, IsAnswered, IsAnsweredBy, IsBegunBy, IsDone, IsDoneBy, IsPerformed, IsPlayedBy, IsSentBy, IsStopped, IsUnrecorded, IsUnsent, IsUntouched, Performs, PerformsBy, answer, ended, told_above}
 use Rattle.desk.specs.Pages.{Cut, uncut, IsShown, Outputs, Page, cut_below, empty_page, fronted, goes_on}
 use Rattle.desk.specs.Scripts.{keeps_going}
 use Rattle.desk.specs.Parts.{ComesTo}
@@ -31,6 +31,7 @@ use Rattle.desk.specs.declared.orders.Job.{Job}
 use Rattle.desk.specs.declared.orders.Task.{Task}
 use Rattle.desk.specs.declared.orders.Task.TheVariants as task
 use Rattle.desk.specs.declared.scripts.ScriptStep.{ScriptStep}
+use Rattle.desk.proofs.CourseLemmas.{split_answer}
 use Rattle.desk.proofs.PageLemmas.{fronted_status}
 use Rattle.desk.proofs.TellingLemmas.{goes_after_zero, shown_zero, whole_below, zero_last}
 
@@ -161,37 +162,42 @@ kept_above s page rest st kept =
     }
 
 -- the last request that was sent
-kept_last : (old : State) (closed : Bool) (st : State) (keep : Bool) (line : Option ℕ) (tells : OfficeState → Request → Told → Page) (s : OfficeState)
+kept_last : (recorded : Bool) (old : State) (closed : Bool) (st : State) (keep : Bool) (line : Option ℕ) (tells : OfficeState → Request → Told → Page) (s : OfficeState)
     (r : Request) (rs : List Request) (answered : ℕ) (page : Page) (cut : Cut)
-    → (goes_on keep page.status ≡ true → cut ≢ uncut) → IsAnswered old closed st tells s r answered page
+    → (goes_on keep page.status ≡ true → cut ≢ uncut) → IsAnsweredBy old closed st recorded tells s r answered page
     → Kept s (ended line (r ∷ rs) answered page cut) st
-kept_last old closed st keep line tells s r rs answered page cut ends it = record {
-  within = by it;
-  leaves = leaves it;
-  all = λ fine. absurd (ends (goes_after_zero keep page.status (sym (fronted_status line page) ∙ fine.0)) fine.1);
-}
+kept_last recorded old closed st keep line tells s r rs answered page cut ends met =
+    let it = split_answer recorded old closed st tells s r answered page met in
+    record {
+      within = by it;
+      leaves = leaves it;
+      all = λ fine. absurd (ends (goes_after_zero keep page.status (sym (fronted_status line page) ∙ fine.0)) fine.1);
+    }
   where
-    by : IsAnswered old closed st tells s r answered page → answered ≤ suc (length rs)
-    by (inl told) = let one = told.0 in omega (arith, one)
-    by (inr met) = let none = met.0 in omega (arith, none)
+    by : IsAnswered old closed st tells s r answered page ⊎ ((recorded ≡ true) × IsUnrecorded old closed st s r answered page) → answered ≤ suc (length rs)
+    by (inl (inl told)) = let one = told.0 in omega (arith, one)
+    by (inl (inr met)) = let none = met.0 in omega (arith, none)
+    by (inr (is, missed)) = let none = missed.0 in omega (arith, none)
 
-    leaves : IsAnswered old closed st tells s r answered page → LeavesState st (IsAfterSome s (r ∷ rs) answered)
-    leaves (inl told) = λ trees may. let x = told.2.at.leaves trees may in let one = told.0 in (x.0, (1, omega (arith, one), omega (arith, one), omega arith, x.1), x.2)
-    leaves (inr (none, (fault, is, (cause, inl stays)))) = λ trees may. let x = stays.open_at.at.leaves trees may in (x.0, (0, omega (arith, none), omega (arith, none), omega arith, x.1), x.2)
-    leaves (inr (none, (fault, is, (cause, inr shut)))) = λ trees may. let x = shut.leaves trees may in elim x.1 [
+    leaves : IsAnswered old closed st tells s r answered page ⊎ ((recorded ≡ true) × IsUnrecorded old closed st s r answered page) → LeavesState st (IsAfterSome s (r ∷ rs) answered)
+    leaves (inl (inl told)) = λ trees may. let x = told.2.at.leaves trees may in let one = told.0 in (x.0, (1, omega (arith, one), omega (arith, one), omega arith, x.1), x.2)
+    leaves (inl (inr (none, (fault, is, (cause, inl stays))))) = λ trees may. let x = stays.open_at.at.leaves trees may in (x.0, (0, omega (arith, none), omega (arith, none), omega arith, x.1), x.2)
+    leaves (inl (inr (none, (fault, is, (cause, inr shut))))) = λ trees may. let x = shut.leaves trees may in elim x.1 [
       | inl before ↦ (x.0, (0, omega (arith, none), omega (arith, none), omega arith, before), x.2)
       | inr next ↦ (x.0, (1, omega (arith, none), omega (arith, none), omega arith, next), x.2)
     ]
+    leaves (inr (is, (none, told, inl (accepted, here)))) = λ trees may. let x = here.at.leaves trees may in (x.0, (1, omega (arith, none), omega (arith, none), omega arith, x.1), x.2)
+    leaves (inr (is, (none, told, inr here))) = λ trees may. let x = here.at.leaves trees may in (x.0, (0, omega (arith, none), omega (arith, none), omega arith, x.1), x.2)
 
-kept_sent : {Then : OfficeState → Course → Type 0} (old : State) (closed : Bool) (st : State) (keep : Bool) (line : Option ℕ) (tells : OfficeState → Request → Told → Page)
+kept_sent : {Then : OfficeState → Course → Type 0} (recorded : Bool) (old : State) (closed : Bool) (st : State) (keep : Bool) (line : Option ℕ) (tells : OfficeState → Request → Told → Page)
     → ((x : OfficeState) (e : Course) → Then x e → Kept x e st)
     → (s : OfficeState) (rs : List Request) (c : Course)
-    → IsSent old closed st keep line tells Then s rs c → Kept s c st
-kept_sent old closed st keep line tells so s [] c sent = so s c sent
-kept_sent old closed st keep line tells so s (r ∷ rs) c (inl (rest, goes, is, more)) =
-    subst (λ e. Kept s e st) (sym is) (kept_more s r (fronted line (answer tells s r)) rest st (kept_sent old closed st keep line tells so (after_one s r) rs rest more))
-kept_sent old closed st keep line tells so s (r ∷ rs) c (inr (answered, page, cut, is, ends, it)) =
-    subst (λ e. Kept s e st) (sym is) (kept_last old closed st keep line tells s r rs answered page cut ends it)
+    → IsSentBy recorded old closed st keep line tells Then s rs c → Kept s c st
+kept_sent recorded old closed st keep line tells so s [] c sent = so s c sent
+kept_sent recorded old closed st keep line tells so s (r ∷ rs) c (inl (rest, goes, is, more)) =
+    subst (λ e. Kept s e st) (sym is) (kept_more s r (fronted line (answer tells s r)) rest st (kept_sent recorded old closed st keep line tells so (after_one s r) rs rest more))
+kept_sent recorded old closed st keep line tells so s (r ∷ rs) c (inr (answered, page, cut, is, ends, it)) =
+    subst (λ e. Kept s e st) (sym is) (kept_last recorded old closed st keep line tells s r rs answered page cut ends it)
 
 stopped_leaves : (old : State) (closed : Bool) (st : State) (s : OfficeState) (page : Page) → IsStopped old closed st s page → LeavesState st (λ x. x ≡ s)
 stopped_leaves old closed st s page (fault, is, (cause, inl stays)) = stays.open_at.at.leaves
@@ -204,34 +210,45 @@ kept_unsent old closed st keep line Tells s c so (inr (page, cut, is, ends, inl 
 kept_unsent old closed st keep line Tells s c so (inr (page, cut, is, ends, inr stopped)) = subst (λ e. Kept s e st) (sym is)
     (kept_none s line page cut st (stopped_leaves old closed st s page stopped))
 
-kept_played : (old : State) (closed : Bool) (st : State) (keep : Bool) (folder : Folder) (s : OfficeState) (turns : List ScriptStep) (c : Course)
-    → IsPlayed old closed st keep folder s turns c → Kept s c st
-kept_played old closed st keep folder s [] c played = subst (λ e. Kept s e st) (sym played.0) (kept_none s None empty_page uncut st played.1.at.leaves)
-kept_played old closed st keep folder s (turn ∷ turns) c (file, found, inl (own, sends, sent)) =
-    kept_sent old closed st keep turn.line (page_answered turn.errand) (λ x e more. kept_played old closed st keep folder x turns e more) s own c sent
-kept_played old closed st keep folder s (turn ∷ turns) c (file, found, inr unsent) =
-    kept_unsent old closed st keep turn.line (IsTold s turn.errand file) s c (λ e more. kept_played old closed st keep folder s turns e more) unsent
+kept_played : (recorded : Bool) (old : State) (closed : Bool) (st : State) (keep : Bool) (folder : Folder) (s : OfficeState) (turns : List ScriptStep) (c : Course)
+    → IsPlayedBy recorded old closed st keep folder s turns c → Kept s c st
+kept_played recorded old closed st keep folder s [] c played = subst (λ e. Kept s e st) (sym played.0) (kept_none s None empty_page uncut st played.1.at.leaves)
+kept_played recorded old closed st keep folder s (turn ∷ turns) c (file, found, inl (own, sends, sent)) =
+    kept_sent recorded old closed st keep turn.line (page_answered turn.errand) (λ x e more. kept_played recorded old closed st keep folder x turns e more) s own c sent
+kept_played recorded old closed st keep folder s (turn ∷ turns) c (file, found, inr unsent) =
+    kept_unsent old closed st keep turn.line (IsTold s turn.errand file) s c (λ e more. kept_played recorded old closed st keep folder s turns e more) unsent
+
+kept_begun : (recorded : Bool) (old : State) (closed : Bool) (st : State) (left_out keep : Bool) (folder : Folder) (s : OfficeState) (turns : List ScriptStep) (c : Course)
+    → IsBegunBy recorded old closed st left_out keep folder s turns c → Kept s c st
+kept_begun recorded old closed st false keep folder s turns c begun = kept_played recorded old closed st keep folder s turns c begun
+kept_begun recorded old closed st true keep folder s turns c begun =
+    kept_unsent old closed st false None _ s c (λ e more. kept_played recorded old closed st keep folder s turns e more) begun
+
+-- a job was done in an open office, with a second record or with none
+pub kept_done_by : (recorded : Bool) (old : State) (closed : Bool) (st : State) (folder : Folder) (s : OfficeState) (job : Job) (c : Course) → IsDoneBy recorded old closed st folder s job c
+    → Kept s c st
+kept_done_by recorded old closed st folder s job c (inl (turns, left_out, are, begun)) = kept_begun recorded old closed st left_out (keeps_going job) folder s turns c begun
+kept_done_by recorded old closed st folder s job c (inr unsent) = kept_unsent old closed st false None _ s c (λ e never. absurd never) unsent
 
 -- a job was done in an open office
 pub kept_done : (old : State) (closed : Bool) (st : State) (folder : Folder) (s : OfficeState) (job : Job) (c : Course) → IsDone old closed st folder s job c → Kept s c st
-kept_done old closed st folder s job c (inl (turns, are, played)) = kept_played old closed st (keeps_going job) folder s turns c played
-kept_done old closed st folder s job c (inr unsent) = kept_unsent old closed st false None _ s c (λ e never. absurd never) unsent
+kept_done old closed st folder s job c done = kept_done_by false old closed st folder s job c done
 
 kept_untouched : (Tells : Page → Type 0) (s : OfficeState) (c : Course) (st : State) → IsUntouched Tells s c st → Kept s c st
 kept_untouched Tells s c st (page, cut, is, told, leaves) = subst (λ e. Kept s e st) (sym is) (kept_none s None page cut st leaves)
 
-kept_performed : (folder : Folder) (s : OfficeState) (task : Task) (c : Course) (old new : State) → Performs folder s task c old new → Kept s c new
-kept_performed folder s task.Init c old new it = kept_untouched _ s c new it
-kept_performed folder s task.Migrate c old new it = kept_untouched _ s c new it
-kept_performed folder s (task.InOffice job) c old new (inr it) = kept_untouched _ s c new it
-kept_performed folder s (task.InOffice job) c old new (inl (closed, done)) = kept_done old closed new folder s job c done
+pub kept_performed : (recorded : Bool) (folder : Folder) (s : OfficeState) (task : Task) (c : Course) (old new : State) → PerformsBy recorded folder s task c old new → Kept s c new
+kept_performed recorded folder s task.Init c old new it = kept_untouched _ s c new it
+kept_performed recorded folder s task.Migrate c old new it = kept_untouched _ s c new it
+kept_performed recorded folder s (task.InOffice job) c old new (inr it) = kept_untouched _ s c new it
+kept_performed recorded folder s (task.InOffice job) c old new (inl (closed, done)) = kept_done_by recorded old closed new folder s job c done
 
 -- ---- the contract
 
 pub performed : (folder : Folder) (s : OfficeState) (task : Task) (cut : Cut) (before then : Outputs) (page : Page) (ends : ℕ) (old new : State) → IsShown cut before then page ends
     → ComesTo cut page (λ course. Performs folder s task course old new) → IsPerformed folder s task cut page ends old new
 performed folder s task cut before then page ends old new shown (requests, answered, comes) =
-    let kept = kept_performed folder s task (record { requests = requests; answered = answered; page = page; cut = cut }) old new comes in
+    let kept = kept_performed false folder s task (record { requests = requests; answered = answered; page = page; cut = cut }) old new comes in
     record {
       requests = requests;
       answered = answered;

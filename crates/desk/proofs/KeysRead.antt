@@ -16,13 +16,17 @@ no_papers : meaning (subcommand_of office_words (codes "DB" ∷ codes "key" ∷ 
 unfolding office_words orders clap_on_literals
 no_papers = refl
 
-past_refusals : meaning (subcommand_of office_words (codes "DB" ∷ codes "replay" ∷ codes "a.txt" ∷ codes "--keep-going" ∷ [])) ≡ Some (replay (codes "a.txt") true)
+past_refusals : meaning (subcommand_of office_words (codes "DB" ∷ codes "replay" ∷ codes "a.txt" ∷ codes "--keep-going" ∷ [])) ≡ Some (replay (codes "a.txt") true false)
 unfolding office_words orders clap_on_literals
 past_refusals = refl
 
-up_to_a_refusal : meaning (subcommand_of office_words (codes "DB" ∷ codes "replay" ∷ codes "a.txt" ∷ [])) ≡ Some (replay (codes "a.txt") false)
+up_to_a_refusal : meaning (subcommand_of office_words (codes "DB" ∷ codes "replay" ∷ codes "a.txt" ∷ [])) ≡ Some (replay (codes "a.txt") false false)
 unfolding office_words orders clap_on_literals
 up_to_a_refusal = refl
+
+whole_lines_alone : meaning (subcommand_of office_words (codes "DB" ∷ codes "replay" ∷ codes "--cut" ∷ codes "a.txt" ∷ [])) ≡ Some (replay (codes "a.txt") false true)
+unfolding office_words orders clap_on_literals
+whole_lines_alone = refl
 
 without_a_limit : meaning (subcommand_of office_words (codes "DB" ∷ codes "serve" ∷ codes "8080" ∷ [])) ≡ Some (serve 8080 None None None None)
 unfolding office_words orders clap_on_literals

@@ -8,8 +8,10 @@ pub mod CauseLemmas
 mod NoteLemmas
 pub mod TellingLemmas
 pub mod CourseLemmas
+mod RecordLemmas
 pub mod StageLemmas
 pub mod KeptLemmas
+mod RecordedLemmas
 pub mod OpenLemmas
 pub mod SealLemmas
 pub mod ScriptLemmas
@@ -25,3 +27,10 @@ mod KeysRead
 mod OverviewLemmas
 mod FormLemmas
 mod MendLemmas
+mod WholeLineLemmas
+mod SecondLemmas
+mod ContentLemmas
+mod ScriptRecordLemmas
+mod SameLemmas
+mod ScriptContinues
+mod RequestLemmas

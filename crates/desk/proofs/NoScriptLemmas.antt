@@ -62,9 +62,10 @@ unfolding is_allowed
 allowed_order (order.Perform task.Init) = refl
 allowed_order (order.Perform task.Migrate) = refl
 allowed_order (order.Perform (task.InOffice (job.Run e))) = allowed_errand e
-allowed_order (order.Perform (task.InOffice (job.Replay file keep_going))) = refl
+allowed_order (order.Perform (task.InOffice (job.Replay script))) = refl
 allowed_order (order.Copy path) = refl
 allowed_order order.Journal = refl
+allowed_order (order.Second path) = refl
 allowed_order (order.Mend m) = refl
 allowed_order (order.Codes path clerks with_office) = refl
 allowed_order (order.Slips path address) = refl

@@ -8,7 +8,7 @@ use Rattle.register.specs.Machine.{after, after_one}
 use Rattle.register.specs.declared.command.Request.{Request}
 use Rattle.office.specs.Answers.{IsOpenAt, Told}
 use Rattle.desk.specs.Folders.{Folder}
-use Rattle.desk.specs.Headline.{Course, IsAnswered, IsDone, IsPlayed, IsSent, IsStopped, IsUnsent, answer, ended, told_above}
+use Rattle.desk.specs.Headline.{Course, IsAnswered, IsBegun, IsDone, IsPlayed, IsSent, IsStopped, IsUnsent, answer, ended, told_above}
 use Rattle.desk.specs.Pages.{Cut, Page, fronted}
 use Rattle.desk.specs.Scripts.{keeps_going}
 use Rattle.desk.specs.Told.{IsTold, page_answered}
@@ -60,8 +60,12 @@ module _ (old : State) (closed : Bool) (st : State) where
   open_played keep folder s (turn ∷ turns) c (file, found, inr unsent) =
       open_unsent keep turn.line (IsTold s turn.errand file) s c (λ e more. open_played keep folder s turns e more) unsent
 
+  open_begun : (left_out keep : Bool) (folder : Folder) (s : OfficeState) (turns : List ScriptStep) (c : Course) → IsBegun old closed st left_out keep folder s turns c → IsOpenAfter s c
+  open_begun false keep folder s turns c begun = open_played keep folder s turns c begun
+  open_begun true keep folder s turns c begun = open_unsent false None _ s c (λ e more. open_played keep folder s turns e more) begun
+
   pub open_done : (folder : Folder) (s : OfficeState) (job : Job) (c : Course) → IsDone old closed st folder s job c → IsOpenAfter s c
-  open_done folder s job c (inl (turns, are, played)) = open_played (keeps_going job) folder s turns c played
+  open_done folder s job c (inl (turns, left_out, are, begun)) = open_begun left_out (keeps_going job) folder s turns c begun
   open_done folder s job c (inr unsent) = open_unsent false None _ s c (λ e never. absurd never) unsent
 
 -- a prefix that is at most one element longer than the first n is also a prefix of the first n elements and the next one

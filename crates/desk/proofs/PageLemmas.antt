@@ -186,6 +186,19 @@ shown_last cut_error old mid new above page before status first next other = rec
   ends = next.ends;
 }
 
+-- a page was printed after a page with status 0 that was written completely
+pub shown_next : (cut : Cut) (old mid new : Outputs) (above page : Page) (status : ℕ) → above.status ≡ 0 → IsWhole old mid above 0 → IsShown cut mid new page status
+    → IsShown (cut_below above.out cut) old new (below above page) status
+shown_next uncut old mid new above page status zero first next =
+    let both = whole_more old mid new above page 0 status first next in
+    record { out = both.out; out_failed = both.out_failed; err = both.err; err_failed = both.err_failed; ends = sym (status_first status) ∙ both.ends }
+shown_next (cut_behind took) old mid new above page status zero first next =
+    let three : status ≡ 3 = broken_ends next in
+    shown_last (cut_behind took) old mid new above page 0 status first next (λ none. absurd (omega arith))
+shown_next cut_error old mid new above page status zero first next =
+    let three : status ≡ 3 = next.ends in
+    shown_last cut_error old mid new above page 0 status first next (λ none. absurd (omega arith))
+
 -- ---- pages for a script's lines
 
 pub fronted_status : (line : Option ℕ) (page : Page) → (fronted line page).status ≡ page.status

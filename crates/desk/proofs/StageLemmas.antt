@@ -11,14 +11,14 @@ use Rattle.register.specs.Offices.{OfficeState}
 use Rattle.register.specs.Machine.{Outcome, accepted, kept, refused, after_one, step_of}
 use Rattle.register.specs.declared.command.Request.{Request}
 use Rattle.office.specs.Answers.{IsOpenAt, Told, again, done, no, told_of}
-use Rattle.desk.specs.Headline.{IsAnswered, IsSent, answer, ended, told_above}
+use Rattle.desk.specs.Headline.{IsAnsweredBy, IsSentBy, answer, ended, told_above}
 use Rattle.desk.specs.Orders.{Sent, sent_as}
 use Rattle.desk.specs.Pages.{Cut, uncut, cut_behind, cut_error, Page, below, empty_page, fronted, goes_on, page_counted}
-use Rattle.desk.specs.Parts.{IsCounted, IsOver, IsStage}
+use Rattle.desk.specs.Parts.{IsCountedBy, IsOver, IsStageBy}
 use Rattle.desk.specs.Requests.{AreAdvances, advance_at, advances, id_at, is_first, is_refused, most_advances}
 use Rattle.desk.proofs.CauseLemmas.{TellsSince}
 use Rattle.desk.proofs.CourseLemmas.{Replied, above_nothing, answered_since, made, next_left, nothing_more, replied_more, replied_then, went_past}
-use Rattle.desk.proofs.TellingLemmas.{goes_after_zero, not_after_fault}
+use Rattle.desk.proofs.TellingLemmas.{goes_after_zero}
 
 -- ---- what the machine answers
 
@@ -44,14 +44,15 @@ abbrev pub page_under : Text → OfficeState → Request → Told → Page
 page_under id s r = page_counted (is_first id r)
 
 -- the answer to a request, given whether it is the first one
-pub answered_under : (old : State) (closed : Bool) (st : State) (id : Text) (first : Bool) (s : OfficeState) (r : Request) (answered : ℕ) (page : Page) → first ≡ is_first id r
-    → IsAnswered old closed st (λ t q. page_counted first) s r answered page → IsAnswered old closed st (page_under id) s r answered page
-answered_under old closed st id first s r answered page is met = subst (λ b. IsAnswered old closed st (λ t q. page_counted b) s r answered page) is met
+pub answered_under : (recorded : Bool) (old : State) (closed : Bool) (st : State) (id : Text) (first : Bool) (s : OfficeState) (r : Request) (answered : ℕ) (page : Page) → first ≡ is_first id r
+    → IsAnsweredBy old closed st recorded (λ t q. page_counted first) s r answered page → IsAnsweredBy old closed st recorded (page_under id) s r answered page
+answered_under recorded old closed st id first s r answered page is met = subst (λ b. IsAnsweredBy old closed st recorded (λ t q. page_counted b) s r answered page) is met
 
 -- the outcome of a request, relative to an earlier state
-pub stage_since : (a b : State) (closed : Bool) (st : State) (first : Bool) (s : OfficeState) (r : Request) (page : Page) (goes : Bool) → TellsSince a b st → IsStage b closed st first s r page goes
-    → IsStage a closed st first s r page goes
-stage_since a b closed st first s r page goes since (answered, met, goes_is) = (answered, answered_since a b closed st (λ t q. page_counted first) s r answered page since met, goes_is)
+pub stage_since : (recorded : Bool) (a b : State) (closed : Bool) (st : State) (first : Bool) (s : OfficeState) (r : Request) (page : Page) (answered : ℕ) (goes : Bool) → TellsSince a b st
+    → IsStageBy recorded b closed st first s r page answered goes
+    → IsStageBy recorded a closed st first s r page answered goes
+stage_since recorded a b closed st first s r page answered goes since (met, goes_is) = (answered_since recorded a b closed st (λ t q. page_counted first) s r answered page since met, goes_is)
 
 -- a disjunction with true is true, and a conjunction with false is false, whatever the other operand is
 or_true : (b : Bool) → (b || true) ≡ true
@@ -167,13 +168,13 @@ pub record CountedSo (keep : Bool) (line : Option ℕ) (s : OfficeState) (ward :
   pub few : (i + 1) + left ≡ most_advances + 1
   pub numbered : Numbered ward id (i + 1) left (drop i rs)
 
-pub none_counted : (keep : Bool) (line : Option ℕ) (s : OfficeState) (ward : ℕ) (id : Text) (rs : List Request) (closed : Bool) (st : State)
+abbrev pub none_counted : (keep : Bool) (line : Option ℕ) (s : OfficeState) (ward : ℕ) (id : Text) (rs : List Request) (closed : Bool) (st : State)
     → IsOpenAt s closed st → map sent_as rs ≡ advances ward id most_advances
     → CountedSo keep line s ward id rs 0 empty_page closed st
 none_counted keep line s ward id rs closed st here are =
     record { end = s; open_at = here; front = []; many = refl; replied = (refl, refl); going = refl; left = most_advances; few = refl; numbered = are }
 
-module _ (old : State) (keep : Bool) (line : Option ℕ) (s : OfficeState) (ward : ℕ) (id : Text) (rs : List Request) where
+module _ (recorded : Bool) (old : State) (keep : Bool) (line : Option ℕ) (s : OfficeState) (ward : ℕ) (id : Text) (rs : List Request) where
   -- the next request, and how many remain after it
   next_numbered : (i : ℕ) (r : Request) (said : Page) (was : Bool) (before : State) → i < length rs → r ≡ get_or rs i r → (so : CountedSo keep line s ward id rs i said was before)
       → (n : ℕ) × (so.left ≡ suc n) × Numbered ward id (i + 1) (suc n) (r ∷ drop (i + 1) rs)
@@ -188,56 +189,60 @@ module _ (old : State) (keep : Bool) (line : Option ℕ) (s : OfficeState) (ward
       go (suc n) e = (n, e, subst (λ k. Numbered ward id (i + 1) k (r ∷ drop (i + 1) rs)) e (subst (Numbered ward id (i + 1) so.left) here so.numbered))
 
   -- the next stage was counted
-  pub stage_more : (mid : State) (i : ℕ) (r : Request) (said : Page) (was : Bool) (before : State) (page : Page) (closed : Bool) (st : State) → i < length rs → r ≡ get_or rs i r
-      → (so : CountedSo keep line s ward id rs i said was before) → (known : Bool) → known ≡ is_first id r → IsStage mid closed st known so.end r page true → page.status ≡ 0
-      → CountedSo keep line s ward id rs (i + 1) (below said (fronted line page)) closed st
-  stage_more mid i r said was before page closed st within is so known known_is (answered, met, more) done_is =
-      let it = answered_under mid closed st id known so.end r answered page known_is met in
+  pub stage_more : (mid : State) (i : ℕ) (r : Request) (said : Page) (was : Bool) (before : State) (page : Page) (answered : ℕ) (closed : Bool) (st : State) → i < length rs
+      → r ≡ get_or rs i r
+      → (so : CountedSo keep line s ward id rs i said was before) → (known : Bool) → known ≡ is_first id r → IsStageBy recorded mid closed st known so.end r page answered true → page.status ≡ 0
+      → (next : CountedSo keep line s ward id rs (i + 1) (below said (fronted line page)) closed st) × (next.end ≡ after_one so.end r) × (answered ≡ 1)
+  stage_more mid i r said was before page answered closed st within is so known known_is (met, more) done_is =
+      let it = answered_under recorded mid closed st id known so.end r answered page known_is met in
       let (n, left_is, numbered) = next_numbered i r said was before within is so in
       let goes : goes_on keep page.status ≡ true = goes_after_zero keep page.status done_is in
-      let told = went_past mid closed st keep (page_under id) so.end r answered page it goes in
+      let told = went_past recorded mid closed st keep (page_under id) so.end r answered page it goes in
       let fine : goes_on keep (answer (page_under id) so.end r).status ≡ true = ap (λ (p : Page). goes_on keep p.status) (sym told.0) ∙ goes in
       let number : 1 + length so.front ≡ i + 1 = let many = so.many in omega (arith, many) in
-      let first = numbered_first ward id (i + 1) n r (drop (i + 1) rs) numbered in
-      record {
-        end = after_one so.end r;
-        open_at = told.1;
-        front = so.front ++ r ∷ [];
-        many = let many = so.many in omega (arith, many, length-append so.front (r ∷ []));
-        replied = subst (λ p. Replied keep line (page_under id) s (so.front ++ r ∷ []) (below said p) (after_one so.end r)) (ap (fronted line) (sym told.0))
-            (replied_more keep line (page_under id) s so.front said so.end r so.replied fine);
-        going = going_more ward id s 1 so.front so.end r so.going (first ∙ ap (advance_at ward id) (sym number)) (not_refused answered (is_refused (step_of so.end r)) more);
-        left = n;
-        few = let few = so.few in omega (arith, few, left_is);
-        numbered = numbered_others ward id (i + 1) n r (drop (i + 1) rs) numbered;
-      }
+      let first = numbered_first ward id (i + 1) n r (drop (i + 1) rs) numbered in (
+        record {
+          end = after_one so.end r;
+          open_at = told.1;
+          front = so.front ++ r ∷ [];
+          many = let many = so.many in omega (arith, many, length-append so.front (r ∷ []));
+          replied = subst (λ p. Replied keep line (page_under id) s (so.front ++ r ∷ []) (below said p) (after_one so.end r)) (ap (fronted line) (sym told.0))
+              (replied_more keep line (page_under id) s so.front said so.end r so.replied fine);
+          going = going_more ward id s 1 so.front so.end r so.going (first ∙ ap (advance_at ward id) (sym number)) (not_refused answered (is_refused (step_of so.end r)) more);
+          left = n;
+          few = let few = so.few in omega (arith, few, left_is);
+          numbered = numbered_others ward id (i + 1) n r (drop (i + 1) rs) numbered;
+        },
+        refl,
+        told.2,
+      )
     where
       not_refused : (k : ℕ) (b : Bool) → true ≡ (k == 1 && not b) → b ≡ false
       not_refused k false e = refl
       not_refused k true e = absurd (true≢false (e ∙ and_false (k == 1)))
 
   -- the next request was the last one
-  pub stage_last : (i : ℕ) (r : Request) (said : Page) (was : Bool) (before : State) (page : Page) (cut : Cut) (goes : Bool) (closed : Bool) (st : State) → i < length rs → r ≡ get_or rs i r
-      → (so : CountedSo keep line s ward id rs i said was before) → (known : Bool) → known ≡ is_first id r → IsStage old closed st known so.end r page goes
+  pub stage_last : (i : ℕ) (r : Request) (said : Page) (was : Bool) (before : State) (page : Page) (cut : Cut) (answered : ℕ) (goes : Bool) (closed : Bool) (st : State)
+      → i < length rs → r ≡ get_or rs i r
+      → (so : CountedSo keep line s ward id rs i said was before) → (known : Bool) → known ≡ is_first id r → IsStageBy recorded old closed st known so.end r page answered goes
       → (goes ≡ true → page.status ≡ 0 → cut ≢ uncut)
-      → (answered : ℕ) × (tail : List Request) × IsCounted old closed st keep line s ward id (told_above so.front said (ended line (r ∷ tail) answered page cut))
-  stage_last i r said was before page cut goes closed st within is so known known_is (answered, met, goes_is) stops =
+      → (tail : List Request) × IsCountedBy recorded old closed st keep line s ward id (told_above so.front said (ended line (r ∷ tail) answered page cut))
+  stage_last i r said was before page cut answered goes closed st within is so known known_is (met, goes_is) stops =
       let (n, left_is, numbered) = next_numbered i r said was before within is so in
       let few = so.few in
       let many = so.many in
       let number : i + 1 ≡ 1 + length so.front = omega (arith, many) in
       let (tail, are) = ended_somewhere ward id n (i + 1) so.end r (drop (i + 1) rs) numbered (omega (arith, few, left_is)) in (
-        answered,
         tail,
         (
           so.front ++ r ∷ tail,
           going_then ward id s 1 so.front so.end (r ∷ tail) so.going (omega (arith, few, left_is, many)) (subst (λ k. AreAdvances so.end ward id k (r ∷ tail)) number are),
-          replied_then keep line (page_under id) (IsOver closed st) old closed st s so.front said so.end (r ∷ tail) (ended line (r ∷ tail) answered page cut) so.replied (last_sent cut tail are stops),
+          replied_then keep line (page_under id) recorded (IsOver closed st) old closed st s so.front said so.end (r ∷ tail) (ended line (r ∷ tail) answered page cut) so.replied (last_sent cut tail are stops),
         ),
       )
     where
-      it : IsAnswered old closed st (page_under id) so.end r answered page
-      it = answered_under old closed st id known so.end r answered page known_is met
+      it : IsAnsweredBy old closed st recorded (page_under id) so.end r answered page
+      it = answered_under recorded old closed st id known so.end r answered page known_is met
 
       -- a refused request is the last one
       none_behind : (tail : List Request) → AreAdvances so.end ward id (i + 1) (r ∷ tail) → is_refused (step_of so.end r) ≡ true → tail ≡ []
@@ -254,26 +259,26 @@ module _ (old : State) (keep : Bool) (line : Option ℕ) (s : OfficeState) (ward
               absurd (never (goes_is ∙ yes) (ap (λ (p : Page). p.status) told ∙ reply_status (is_first id r) (step_of so.end r) e))
 
       last_sent : (k : Cut) (tail : List Request) → AreAdvances so.end ward id (i + 1) (r ∷ tail) → (goes ≡ true → page.status ≡ 0 → k ≢ uncut)
-          → IsSent old closed st keep line (page_under id) (IsOver closed st) so.end (r ∷ tail) (ended line (r ∷ tail) answered page k)
+          → IsSentBy recorded old closed st keep line (page_under id) (IsOver closed st) so.end (r ∷ tail) (ended line (r ∷ tail) answered page k)
       last_sent (cut_behind took) tail are never = inr (answered, page, cut_behind took, refl, (λ on is. absurd (cc is)), it)
       last_sent cut_error tail are never = inr (answered, page, cut_error, refl, (λ on is. absurd (cc is)), it)
       last_sent uncut tail are never = by (goes_on keep page.status) refl it
         where
-          by : (b : Bool) → goes_on keep page.status ≡ b → IsAnswered old closed st (page_under id) so.end r answered page
-              → IsSent old closed st keep line (page_under id) (IsOver closed st) so.end (r ∷ tail) (ended line (r ∷ tail) answered page uncut)
+          by : (b : Bool) → goes_on keep page.status ≡ b → IsAnsweredBy old closed st recorded (page_under id) so.end r answered page
+              → IsSentBy recorded old closed st keep line (page_under id) (IsOver closed st) so.end (r ∷ tail) (ended line (r ∷ tail) answered page uncut)
           by false e met = inr (answered, page, uncut, refl, (λ on. absurd (true≢false (sym on ∙ e))), met)
-          by true e (inr met) = absurd (true≢false (sym e ∙ not_after_fault keep page.status (ap (λ (p : Page). p.status) met.1.1)))
-          by true e (inl told) =
-              let none : tail ≡ [] = none_behind tail are (was_refused told.1 told.0 (λ yes zero. never yes zero refl)) in
-              let fine : goes_on keep (answer (page_under id) so.end r).status ≡ true = ap (λ (p : Page). goes_on keep p.status) (sym told.1) ∙ e in
-              let same = ap (λ n. made (r ∷ []) n (fronted line page) uncut) told.0 ∙
-              (ap (λ p. made (r ∷ []) 1 (fronted line p) uncut) told.1 ∙ above_nothing (r ∷ []) (fronted line (answer (page_under id) so.end r))) in
-              subst (λ t. IsSent old closed st keep line (page_under id) (IsOver closed st) so.end (r ∷ t) (ended line (r ∷ t) answered page uncut)) (sym none)
-              (inl (nothing_more, fine, same, (refl, told.2)))
+          by true e met =
+              let told = went_past recorded old closed st keep (page_under id) so.end r answered page met e in
+              let none : tail ≡ [] = none_behind tail are (was_refused told.0 told.2 (λ yes zero. never yes zero refl)) in
+              let fine : goes_on keep (answer (page_under id) so.end r).status ≡ true = ap (λ (p : Page). goes_on keep p.status) (sym told.0) ∙ e in
+              let same = ap (λ n. made (r ∷ []) n (fronted line page) uncut) told.2 ∙
+              (ap (λ p. made (r ∷ []) 1 (fronted line p) uncut) told.0 ∙ above_nothing (r ∷ []) (fronted line (answer (page_under id) so.end r))) in
+              subst (λ t. IsSentBy recorded old closed st keep line (page_under id) (IsOver closed st) so.end (r ∷ t) (ended line (r ∷ t) answered page uncut)) (sym none)
+              (inl (nothing_more, fine, same, (refl, told.1)))
 
   -- all numbers were used, and none of the requests was refused
   pub stages_all : (i : ℕ) (said : Page) (closed : Bool) (st : State) → length rs ≤ i → (so : CountedSo keep line s ward id rs i said closed st)
-      → IsCounted old closed st keep line s ward id (told_above so.front said nothing_more)
+      → IsCountedBy recorded old closed st keep line s ward id (told_above so.front said nothing_more)
   stages_all i said closed st all so = by so.front refl
     where
       many : length so.front ≡ most_advances
@@ -285,12 +290,12 @@ module _ (old : State) (keep : Bool) (line : Option ℕ) (s : OfficeState) (ward
           let front = so.many in
           omega (arith, few, left, front)
 
-      by : (front : List Request) → so.front ≡ front → IsCounted old closed st keep line s ward id (told_above so.front said nothing_more)
+      by : (front : List Request) → so.front ≡ front → IsCountedBy recorded old closed st keep line s ward id (told_above so.front said nothing_more)
       by [] e = let bad : 0 ≡ most_advances = sym (ap (λ (xs : List Request). length xs) e) ∙ many in absurd (omega arith)
       by (r ∷ front) e = (
         so.front,
         subst (AreAdvances s ward id 1) (sym e) (going_all ward id s 1 r front so.end (subst (λ xs. Going ward id s 1 xs so.end) e so.going)
             (let long = sym (ap (λ (xs : List Request). length xs) e) ∙ many in omega (arith, long))),
-        subst (λ xs. IsSent old closed st keep line (page_under id) (IsOver closed st) s xs (told_above so.front said nothing_more)) (append-nil so.front)
-            (replied_then keep line (page_under id) (IsOver closed st) old closed st s so.front said so.end [] nothing_more so.replied (refl, so.open_at)),
+        subst (λ xs. IsSentBy recorded old closed st keep line (page_under id) (IsOver closed st) s xs (told_above so.front said nothing_more)) (append-nil so.front)
+            (replied_then keep line (page_under id) recorded (IsOver closed st) old closed st s so.front said so.end [] nothing_more so.replied (refl, so.open_at)),
       )

@@ -22,7 +22,7 @@ use Rattle.desk.specs.declared.copying.CopyState.{CopyState}
 use Rattle.desk.specs.declared.copying.CopyState.TheVariants.{Whole, Untouched, Unknown}
 use Rattle.desk.specs.Pages.{Page, failed, replied}
 use Rattle.desk.specs.declared.lines.Failure.{Failure}
-use Rattle.desk.specs.declared.lines.Failure.TheVariants.{Office, CopyTaken, CopyFailed, Output, BeingServed, FileGone}
+use Rattle.desk.specs.declared.lines.Failure.TheVariants.{Office, CopyTaken, CopyFailed, Output, BeingServed, FileGone, SecondRecord}
 
 -- the line that says how much a copy contains
 unfoldable pub copied_text : OfficeCounts → Text
@@ -39,6 +39,7 @@ EndsCopying old new CopyFailed = ⊤
 EndsCopying old new Output = ⊥
 EndsCopying old new BeingServed = ⊥
 EndsCopying old new FileGone = ⊥
+EndsCopying old new SecondRecord = ⊥
 
 -- what the other database contains if the copy isn't confirmed: what it contained before, unless writing it failed
 abbrev pub state_behind : CopyFault → CopyState

@@ -11,8 +11,8 @@ use Rattle.store.specs.Migrations.{HoldsNoOlder, IsToldInMigration, LeavesOldOrN
 use Rattle.store.specs.declared.migration.Migrated.TheVariants.{Already, Done}
 use Rattle.office.specs.{Answers.IsClosedIn, Answers.IsKeptOpen, Answers.IsMemoryOrStore, Answers.IsOpenAt, Answers.Told, Answers.told_of, Reads.IsClosedReading, Runs.Keeps}
 use Rattle.desk.specs.{Folders.File, Folders.Folder, Folders.IsFileAt, Requests.Sends, Requests.file_of, Scripts.HasSteps, Scripts.keeps_going, Told.IsNoScript, Told.IsTold, Told.page_answered}
-use Rattle.desk.specs.Pages.{Cut, Page, below, cut_below, empty_page, failed, fronted, goes_on, migrated_text, replied, uncut}
-use Rattle.desk.specs.declared.{lines.Failure.TheVariants.Office, orders.Job.Job, orders.Task.Task, scripts.ScriptStep.ScriptStep}
+use Rattle.desk.specs.Pages.{Cut, Page, below, cut_below, cut_note, empty_page, failed, fronted, goes_on, migrated_text, replied, uncut}
+use Rattle.desk.specs.declared.{lines.Failure.TheVariants.Office, lines.Failure.TheVariants.SecondRecord, orders.Job.Job, orders.Task.Task, scripts.ScriptStep.ScriptStep}
 use Rattle.desk.specs.declared.orders.Task.TheVariants as task
 
 -- The outcome of a list of requests: the requests themselves, how many of them were answered, the page printed for them, and how much of that page was written.
@@ -51,13 +51,16 @@ module _ (old : State) (closed : Bool) (st : State) where
       ((answered ≡ 1) × (page ≡ answer tells s r) × IsOpenAt (after_one s r) closed st)
       ⊎ ((answered ≡ 0) × IsFailed (λ fault. (FailsBy old st fault ⊎ (is_accepted (step_of s r) ≡ true)) × (IsKeptOpen s fault closed st ⊎ IsClosedIn s (step_of s r) fault closed st)) page)
 
-  -- Requests are sent one after another, each after a page that was written completely and doesn't end the sequence. After the last request, `Then` holds.
-  -- Otherwise the sequence ends early.
-  abbrev pub IsSent : Bool → Option ℕ → (OfficeState → Request → Told → Page) → (OfficeState → Course → Type 0) → OfficeState → List Request → Course → Type 0
-  IsSent keep line tells Then s [] course = Then s course
-  IsSent keep line tells Then s (r ∷ rs) course =
-      ((rest : Course) × (goes_on keep (answer tells s r).status ≡ true) × (course ≡ told_above (r ∷ []) (fronted line (answer tells s r)) rest) × IsSent keep line tells Then (after_one s r) rs rest)
-      ⊎ ((answered : ℕ) × (page : Page) × (cut : Cut) × (course ≡ ended line (r ∷ rs) answered page cut) × (goes_on keep page.status ≡ true → cut ≢ uncut) × IsAnswered tells s r answered page)
+  -- A request wasn't acknowledged because recording it failed. It was accepted, and the office is open in the state after it. Or the record had failed before, and
+  -- the office is open in the unchanged state.
+  abbrev pub IsUnrecorded : OfficeState → Request → ℕ → Page → Type 0
+  IsUnrecorded s r answered page =
+      (answered ≡ 0) × (page ≡ failed SecondRecord) × (((is_accepted (step_of s r) ≡ true) × IsOpenAt (after_one s r) closed st) ⊎ IsOpenAt s closed st)
+
+  -- a request is answered in an office with a second record, or with none
+  abbrev pub IsAnsweredBy : Bool → (OfficeState → Request → Told → Page) → OfficeState → Request → ℕ → Page → Type 0
+  IsAnsweredBy false tells s r answered page = IsAnswered tells s r answered page
+  IsAnsweredBy true tells s r answered page = IsAnswered tells s r answered page ⊎ IsUnrecorded s r answered page
 
   -- The page reports a fault, with its cause, before anything was sent. After a stop, the state is unchanged.
   abbrev pub IsStopped : OfficeState → Page → Type 0
@@ -70,20 +73,52 @@ module _ (old : State) (closed : Bool) (st : State) where
       ((page : Page) × (rest : Course) × Tells page × (goes_on keep page.status ≡ true) × (course ≡ told_above [] (fronted line page) rest) × Then rest)
       ⊎ ((page : Page) × (cut : Cut) × (course ≡ ended line [] 0 page cut) × (goes_on keep page.status ≡ true → cut ≢ uncut) × ((Tells page × IsOpenAt s closed st) ⊎ IsStopped s page))
 
+-- The same, given whether the office has a second record.
+module _ (recorded : Bool) (old : State) (closed : Bool) (st : State) where
+  -- Requests are sent one after another, each after a page that was written completely and doesn't end the sequence. After the last request, `Then` holds.
+  -- Otherwise the sequence ends early.
+  abbrev pub IsSentBy : Bool → Option ℕ → (OfficeState → Request → Told → Page) → (OfficeState → Course → Type 0) → OfficeState → List Request → Course → Type 0
+  IsSentBy keep line tells Then s [] course = Then s course
+  IsSentBy keep line tells Then s (r ∷ rs) course =
+      ((rest : Course) × (goes_on keep (answer tells s r).status ≡ true) × (course ≡ told_above (r ∷ []) (fronted line (answer tells s r)) rest)
+      × IsSentBy keep line tells Then (after_one s r) rs rest)
+      ⊎ ((answered : ℕ) × (page : Page) × (cut : Cut) × (course ≡ ended line (r ∷ rs) answered page cut) × (goes_on keep page.status ≡ true → cut ≢ uncut)
+      × IsAnsweredBy old closed st recorded tells s r answered page)
+
   -- Steps are run one after another, each with the file that is at its path when the step runs. Either all requests of a step are sent; or none are, and the page
   -- answers the step's question or says why its file is refused.
-  abbrev pub IsPlayed : Bool → Folder → OfficeState → List ScriptStep → Course → Type 0
-  IsPlayed keep folder s [] course = (course ≡ ended None [] 0 empty_page uncut) × IsOpenAt s closed st
-  IsPlayed keep folder s (turn ∷ turns) course =
+  abbrev pub IsPlayedBy : Bool → Folder → OfficeState → List ScriptStep → Course → Type 0
+  IsPlayedBy keep folder s [] course = (course ≡ ended None [] 0 empty_page uncut) × IsOpenAt s closed st
+  IsPlayedBy keep folder s (turn ∷ turns) course =
       (file : File) × IsFileAt folder (file_of turn.errand) file
-      × (((requests : List Request) × Sends s turn.errand file requests × IsSent keep turn.line (page_answered turn.errand) (λ next. IsPlayed keep folder next turns) s requests course)
-      ⊎ IsUnsent keep turn.line (IsTold s turn.errand file) (IsPlayed keep folder s turns) s course)
+      × (((requests : List Request) × Sends s turn.errand file requests
+      × IsSentBy keep turn.line (page_answered turn.errand) (λ next. IsPlayedBy keep folder next turns) s requests course)
+      ⊎ IsUnsent old closed st keep turn.line (IsTold s turn.errand file) (IsPlayedBy keep folder s turns) s course)
+
+  -- Steps are run. If the end of their script is left out, a note says so first, and no step is run unless it was written.
+  abbrev pub IsBegunBy : Bool → Bool → Folder → OfficeState → List ScriptStep → Course → Type 0
+  IsBegunBy false keep folder s turns course = IsPlayedBy keep folder s turns course
+  IsBegunBy true keep folder s turns course = IsUnsent old closed st false None (λ page. page ≡ cut_note) (IsPlayedBy keep folder s turns) s course
 
   -- A job is done in the open office: its steps are run; with `keep_going`, the job continues after refusals. Or the page says why the job's text isn't a script. Or the
   -- page reports a fault.
+  abbrev pub IsDoneBy : Folder → OfficeState → Job → Course → Type 0
+  IsDoneBy folder s job course = ((turns : List ScriptStep) × (left_out : Bool) × HasSteps folder job left_out turns
+      × IsBegunBy left_out (keeps_going job) folder s turns course) ⊎ IsUnsent old closed st false None (IsNoScript folder job) (λ rest. ⊥) s course
+
+-- The same in an office with no second record.
+module _ (old : State) (closed : Bool) (st : State) where
+  abbrev pub IsSent : Bool → Option ℕ → (OfficeState → Request → Told → Page) → (OfficeState → Course → Type 0) → OfficeState → List Request → Course → Type 0
+  IsSent = IsSentBy false old closed st
+
+  abbrev pub IsPlayed : Bool → Folder → OfficeState → List ScriptStep → Course → Type 0
+  IsPlayed = IsPlayedBy false old closed st
+
+  abbrev pub IsBegun : Bool → Bool → Folder → OfficeState → List ScriptStep → Course → Type 0
+  IsBegun = IsBegunBy false old closed st
+
   abbrev pub IsDone : Folder → OfficeState → Job → Course → Type 0
-  IsDone folder s job course = ((turns : List ScriptStep) × HasSteps folder job turns
-      × IsPlayed (keeps_going job) folder s turns course) ⊎ IsUnsent false None (IsNoScript folder job) (λ rest. ⊥) s course
+  IsDone = IsDoneBy false old closed st
 
 -- Nothing is sent, and after a stop the state is unchanged.
 abbrev pub IsUntouched : (Page → Type 0) → OfficeState → Course → State → Type 0
@@ -91,10 +126,15 @@ IsUntouched Tells s course new = (page : Page) × (cut : Cut) × (course ≡ end
 
 -- The outcome of a task for an office in the given state. `init` doesn't create a second office. For `migrate`, the office already has this version. For any other
 -- task, its job is done in the office; or the office isn't opened, and the page reports a fault, with its cause.
+abbrev pub PerformsBy : Bool → Folder → OfficeState → Task → Course → State → State → Type 0
+PerformsBy recorded folder s task.Init course old new = IsUntouched (λ page. page ≡ failed (Office WrongDatabase)) s course new
+PerformsBy recorded folder s task.Migrate course old new = IsUntouched (λ page. (page ≡ replied (migrated_text Already)) ⊎ IsFailed IsMemoryOrStore page) s course new
+PerformsBy recorded folder s (task.InOffice job) course old new =
+    ((closed : Bool) × IsDoneBy recorded old closed new folder s job course) ⊎ IsUntouched (IsFailed (FailsBy old new)) s course new
+
+-- the same in an office with no second record
 abbrev pub Performs : Folder → OfficeState → Task → Course → State → State → Type 0
-Performs folder s task.Init course old new = IsUntouched (λ page. page ≡ failed (Office WrongDatabase)) s course new
-Performs folder s task.Migrate course old new = IsUntouched (λ page. (page ≡ replied (migrated_text Already)) ⊎ IsFailed IsMemoryOrStore page) s course new
-Performs folder s (task.InOffice job) course old new = ((closed : Bool) × IsDone old closed new folder s job course) ⊎ IsUntouched (IsFailed (FailsBy old new)) s course new
+Performs = PerformsBy false
 
 -- The contract of a task: the given number of its requests were answered, as its page says. If earlier requests led to the office's state, the state after a stop
 -- is the one after the accepted requests in a prefix of the earlier requests followed by the task's. The prefix contains each earlier and each answered request, and

@@ -7,7 +7,7 @@ use Rattle.clap.specs.Words.{Text}
 use Rattle.sqlite.specs.State.{State}
 use Rattle.register.specs.Offices.{OfficeState}
 use Rattle.office.specs.Answers.{IsOpenAt}
-use Rattle.desk.specs.Headline.{Course, IsPlayed, ended}
+use Rattle.desk.specs.Headline.{Course, IsBegunBy, ended}
 use Rattle.desk.specs.Folders.{Folder}
 use Rattle.desk.specs.Pages.{Cut, script_page}
 use Rattle.desk.specs.Scripts.{AreTurns, LexerEntry, IsFirstFlaw, IsFlawOf, Numbered, Typed}
@@ -46,8 +46,9 @@ abbrev pub IsFaultOfLines : List Typed → ScriptFault → Type 0
 IsFaultOfLines lines fault.Memory = ⊤
 IsFaultOfLines lines (fault.ScriptLine number flaw) = IsFirstFlaw lines number flaw
 
--- the outcome of a script's lines: either their steps are run; or what is wrong with them is reported, and nothing is sent
-abbrev pub IsReplayOf : Bool → Folder → OfficeState → List Typed → Course → State → Bool → State → Type 0
-IsReplayOf keep folder s lines course old closed st =
-    ((turns : List ScriptStep) × AreTurns lines turns × IsPlayed old closed st keep folder s turns course)
+-- the outcome of a script's lines: either their steps are run, after a note if the end of the script is left out; or what is wrong with the lines is reported, and
+-- nothing is sent
+abbrev pub IsReplayOfBy : Bool → Bool → Bool → Folder → OfficeState → List Typed → Course → State → Bool → State → Type 0
+IsReplayOfBy recorded left_out keep folder s lines course old closed st =
+    ((turns : List ScriptStep) × AreTurns lines turns × IsBegunBy recorded old closed st left_out keep folder s turns course)
     ⊎ ((why : ScriptFault) × (cut : Cut) × (course ≡ ended None [] 0 (script_page why) cut) × IsFaultOfLines lines why × IsOpenAt s closed st)

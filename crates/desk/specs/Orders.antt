@@ -180,9 +180,10 @@ pub data Meant : Type 0 where
   print_page : ℕ → Text → Meant
   print_index : Text → Meant
   ask : Question → Meant
-  replay : Text → Bool → Meant
+  replay : Text → Bool → Bool → Meant
   copy : Text → Meant
   journal : Meant
+  second : Text → Meant
   mend : Bool → Text → List Text → List Text → Meant
   make_codes : Text → Text → Bool → Meant
   print_slips : Text → Text → Meant
@@ -217,9 +218,10 @@ abbrev pub told : Order → Meant
 told (order.Perform task.Init) = make
 told (order.Perform task.Migrate) = migrate
 told (order.Perform (task.InOffice (job.Run errand))) = told_errand errand
-told (order.Perform (task.InOffice (job.Replay file keep_going))) = replay file.now keep_going
+told (order.Perform (task.InOffice (job.Replay script))) = replay script.file.now script.keep_going script.cut
 told (order.Copy path) = copy path.now
 told order.Journal = journal
+told (order.Second path) = second path.now
 told (order.Mend m) = mend m.takes_over m.path.now (map string_bytes m.without.items) (map string_bytes m.instead.items)
 told (order.Codes path clerks with_office) = make_codes path.now clerks.now with_office
 told (order.Slips path address) = print_slips path.now (origin_text address)
@@ -353,7 +355,8 @@ orders =
     ∷ takes (codes "fields") (number (codes "BATCH") ∷ number_or_none (codes "CLERK") ∷ []) (λ batch clerk. ask (question.Fields batch clerk))
     ∷ takes (codes "receipts") (number_or_none (codes "ACTOR") ∷ []) (λ actor. ask (question.Receipts actor))
     ∷ takes (codes "journal") [] journal
-    ∷ takes (codes "replay") (text (codes "FILE") ∷ flag (codes "keep-going") ∷ []) replay
+    ∷ takes (codes "replay") (text (codes "FILE") ∷ flag (codes "keep-going") ∷ flag (codes "cut") ∷ []) replay
+    ∷ takes (codes "second") (text (codes "FILE") ∷ []) second
     ∷ takes (codes "copy") (text (codes "NEW") ∷ []) copy
     ∷ takes (codes "mend") (text (codes "NEW") ∷ options (codes "without") ∷ options (codes "with") ∷ []) (mend false)
     ∷ takes (codes "switch") (text (codes "NEW") ∷ options (codes "without") ∷ options (codes "with") ∷ []) (mend true)

@@ -29,7 +29,7 @@ use Rattle.desk.specs.Words.{bad_digest, bad_form, bad_origin, bad_title}
 use Rattle.desk.specs.declared.scripts.ScriptFault.{ScriptFault}
 use Rattle.desk.specs.declared.scripts.ScriptFault.TheVariants as script
 use Rattle.desk.specs.declared.lines.Failure.{Failure}
-use Rattle.desk.specs.declared.lines.Failure.TheVariants.{Office, Output, CopyTaken, CopyFailed, BeingServed, FileGone}
+use Rattle.desk.specs.declared.lines.Failure.TheVariants.{Office, Output, CopyTaken, CopyFailed, BeingServed, FileGone, SecondRecord}
 use Rattle.desk.specs.declared.words.WordsFault.{WordsFault}
 use Rattle.desk.specs.declared.words.WordsFault.TheVariants as words
 use Rattle.desk.specs.declared.lines.NoForm.{NoForm}
@@ -65,6 +65,7 @@ failure_number CopyTaken = 109
 failure_number CopyFailed = 110
 failure_number BeingServed = 111
 failure_number FileGone = 113
+failure_number SecondRecord = 112
 
 -- and the text for it
 abbrev pub failure_text : Failure → Text
@@ -74,6 +75,7 @@ failure_text CopyTaken = codes "copy is there already"
 failure_text CopyFailed = codes "copy not written"
 failure_text BeingServed = codes "office is being served"
 failure_text FileGone = codes "file gone or replaced"
+failure_text SecondRecord = codes "second record"
 
 -- the failure for a copy that wasn't made; an allocation failure is reported as usual
 abbrev pub failure_of : CopyFault → Failure
@@ -166,6 +168,14 @@ unformed why = record { out = []; err = joined (codes "no form: " ∷ no_form_te
 abbrev pub unmended : Text → Page
 unmended text = record { out = []; err = text; status = 1 }
 
+-- the page that says that a second record and the office aren't the same, and how they differ
+abbrev pub unequal : Text → Page
+unequal text = record { out = []; err = text; status = 1 }
+
+-- the page that says that the end of a script was cut, and isn't read
+abbrev pub cut_note : Page
+cut_note = record { out = []; err = codes "note: the last line was cut, and is left out\n"; status = 0 }
+
 -- the note that a request was accepted earlier, and that its content had no effect this time
 abbrev pub note_line : Text → Text
 note_line id = joined (codes "note: " ∷ id ∷ codes " was kept before with other words; nothing was changed\n" ∷ [])
@@ -225,11 +235,13 @@ page_of (outcome.LotNeeded why) = replied (reason_text why)
 page_of (outcome.Refused why) = refused why
 page_of (outcome.Unread fault) = unread fault
 page_of (outcome.Failed fault) = failed (Office fault)
+page_of outcome.Unrecorded = failed SecondRecord
 page_of (outcome.Uncopied why) = failed (failure_of why)
 page_of outcome.Unjournalled = unjournalled
 page_of (outcome.Unsealed given_out expected) = unsealed given_out expected
 page_of (outcome.Unformed why) = unformed why
 page_of (outcome.Unmended text) = unmended (string_bytes text)
+page_of (outcome.Unequal text) = unequal (string_bytes text)
 
 -- the page that says why words aren't an order: help is printed to the output, and what is wrong with the words to the error output
 abbrev pub words_page : WordsFault → Page

@@ -12,7 +12,7 @@ use Rattle.office.specs.Overviews.{batches_answer}
 use Rattle.office.specs.Reads.{columns_answer}
 use Rattle.keyfile.specs.Files.{Format}
 use Rattle.desk.specs.Folders.{File}
-use Rattle.desk.specs.Headline.{Course, IsAnswered, IsSent, IsStopped, ended}
+use Rattle.desk.specs.Headline.{Course, IsAnsweredBy, IsSentBy, IsStopped, ended}
 use Rattle.desk.specs.Overviews.{page_asked}
 use Rattle.desk.specs.Pages.{Cut, Page, uncut, empty_page, failed, page_counted, page_found}
 use Rattle.desk.specs.Requests.{AreAdvances, HoldsKeying, is_first, is_refused}
@@ -27,19 +27,25 @@ use Rattle.desk.specs.declared.orders.Question.{Question}
 abbrev pub ComesTo : Cut → Page → (Course → Type 0) → Type 0
 ComesTo cut page P = (requests : List Request) × (answered : ℕ) × P (record { requests = requests; answered = answered; page = page; cut = cut })
 
+-- the same, where K also holds for these requests and the number of answered ones
+abbrev pub ComesToRecorded : Cut → Page → (List Request → ℕ → Type 0) → (Course → Type 0) → Type 0
+ComesToRecorded cut page K P =
+    (requests : List Request) × (answered : ℕ) × P (record { requests = requests; answered = answered; page = page; cut = cut }) × K requests answered
+
 -- nothing remains to be done, and the office is open in the given state
 abbrev pub IsOver : Bool → State → OfficeState → Course → Type 0
 IsOver closed st s course = (course ≡ ended None [] 0 empty_page uncut) × IsOpenAt s closed st
 
 -- The outcome of a request for another stage, whether it is the first or a later one, and whether the count continues after it. The count continues if the machine
--- doesn't refuse the request and there is no fault.
-abbrev pub IsStage : State → Bool → State → Bool → OfficeState → Request → Page → Bool → Type 0
-IsStage old closed st first s r page goes = (answered : ℕ) × IsAnswered old closed st (λ t q. page_counted first) s r answered page × (goes ≡ (answered == 1 && not (is_refused (step_of s r))))
+-- doesn't refuse the request and it is acknowledged.
+abbrev pub IsStageBy : Bool → State → Bool → State → Bool → OfficeState → Request → Page → ℕ → Bool → Type 0
+IsStageBy recorded old closed st first s r page answered goes =
+    IsAnsweredBy old closed st recorded (λ t q. page_counted first) s r answered page × (goes ≡ (answered == 1 && not (is_refused (step_of s r))))
 
 -- a ward's stages were counted by the requests of an order with the given id, starting with the first request
-abbrev pub IsCounted : State → Bool → State → Bool → Option ℕ → OfficeState → ℕ → Text → Course → Type 0
-IsCounted old closed st keep line s ward id course =
-    (requests : List Request) × AreAdvances s ward id 1 requests × IsSent old closed st keep line (λ t r. page_counted (is_first id r)) (IsOver closed st) s requests course
+abbrev pub IsCountedBy : Bool → State → Bool → State → Bool → Option ℕ → OfficeState → ℕ → Text → Course → Type 0
+IsCountedBy recorded old closed st keep line s ward id course =
+    (requests : List Request) × AreAdvances s ward id 1 requests × IsSentBy recorded old closed st keep line (λ t r. page_counted (is_first id r)) (IsOver closed st) s requests course
 
 -- the page shows what is found in the given state, or says why nothing is found; or it reports a fault
 abbrev pub IsFound : {X : Type 0} → OfficeState → (X → Page) → Result X Reason → Page → Bool → State → State → Type 0

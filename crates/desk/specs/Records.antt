@@ -5,6 +5,7 @@ use Rattle.register.specs.Machine.{after, after_one, is_accepted, step_of}
 use Rattle.register.specs.Offices.{OfficeState}
 use Rattle.register.specs.declared.command.Request.{Request}
 use Rattle.desk.specs.Journals.{IsJournalOf}
+use Rattle.desk.specs.Scripts.{whole_lines}
 
 -- ---- a file to which bytes are appended
 
@@ -18,38 +19,34 @@ pub record IsLeftOf (file : Appended) (text : Text) : Type 0 where
   pub count : ℕ
   pub is : text ≡ file.flushed ++ take count file.pending
 
--- more bytes were appended: all of these, or a beginning of them
-pub record IsAppended (old new : Appended) (bytes : List ℕ) (count : ℕ) : Type 0 where
-  pub flushed : new.flushed ≡ old.flushed
-  pub pending : new.pending ≡ old.pending ++ take count bytes
+-- a stop may leave this text of a file; it may leave none of a file of which nothing is known
+abbrev pub Leaves : Option Appended → Text → Type 0
+Leaves None text = ⊥
+Leaves (Some file) text = IsLeftOf file text
 
--- whatever the file is known to hold, it holds this afterwards
+-- whatever the file is known to hold, these bytes were appended to it
 abbrev pub AppendsAll : Option Appended → Option Appended → List ℕ → Type 0
 AppendsAll old new bytes = IfSome old (λ file. new ≡ Some (record { flushed = file.flushed; pending = file.pending ++ bytes }))
 
+-- a beginning of these bytes was appended to it
 abbrev pub AppendsSome : Option Appended → Option Appended → List ℕ → Type 0
 AppendsSome old new bytes = IfSome old (λ file. (count : ℕ) × (new ≡ Some (record { flushed = file.flushed; pending = file.pending ++ take count bytes })))
 
+-- the bytes appended to it were flushed
 abbrev pub FlushesAll : Option Appended → Option Appended → Type 0
 FlushesAll old new = IfSome old (λ file. new ≡ Some (record { flushed = file.flushed ++ file.pending; pending = [] }))
 
 -- ---- what a stop leaves
 
--- the whole lines of a text, given the beginning of the first one: what follows the last line feed is left out
-abbrev pub whole_lines_from : Text → Text → Text
-whole_lines_from line [] = []
-whole_lines_from line (byte ∷ bytes) = if byte == 10 then line ++ byte ∷ whole_lines_from [] bytes else whole_lines_from (line ++ byte ∷ []) bytes
-
-abbrev pub whole_lines : Text → Text
-whole_lines text = whole_lines_from [] text
-
 -- The whole lines of each text that a stop may leave, played over the empty office, are all accepted there, and lead to a state of the given kind.
 abbrev pub LeavesRecord : (Text → Type 0) → (OfficeState → Type 0) → Type 0
 LeavesRecord found P = (text : Text) → found text → (x : OfficeState) × P x × IsJournalOf x (whole_lines text)
 
--- whatever a stop leaves of the record leads to exactly this state
-abbrev pub IsRecordOf : (Text → Type 0) → OfficeState → Type 0
-IsRecordOf found s = LeavesRecord found (λ x. x ≡ s)
+-- The record is known and complete: each text that a stop may leave consists of whole lines, and leads to exactly this state.
+pub record IsRecordOf (found : Text → Type 0) (s : OfficeState) : Type 0 where
+  pub known : (text : Text) × found text
+  pub whole : (text : Text) → found text → whole_lines text ≡ text
+  pub leads : LeavesRecord found (λ x. x ≡ s)
 
 -- ---- requests and the record
 
@@ -62,10 +59,12 @@ pub record IsAfterAnswered (s : OfficeState) (requests : List Request) (answered
   pub is : x ≡ after s (take count requests)
 
 -- What became of the record of an office in the given state while requests were sent to it, of which so many were answered. Whatever a stop leaves of it leads to the state
--- after a beginning of the requests, which contains each answered one and at most one more. Unless the record failed, that beginning is just the answered ones.
+-- after a beginning of the requests, which contains each answered one and at most one more. Unless the record failed, that beginning is just the answered ones. It fails
+-- only at a request that isn't answered.
 pub record IsRecorded (s : OfficeState) (requests : List Request) (answered : ℕ) (old new : Text → Type 0) (failed : Bool) : Type 0 where
   pub leaves : IsRecordOf old s → LeavesRecord new (IsAfterAnswered s requests answered)
   pub whole : failed ≡ false → IsRecordOf old s → IsRecordOf new (after s (take answered requests))
+  pub unfailed : answered ≡ length requests → failed ≡ false
 
 -- A request that was accepted in the given state was recorded: what a stop leaves leads to the state after it. If that failed, it leads to the state before or after it.
 pub record Records (request : Request) (old new : Text → Type 0) (failed : Bool) : Type 0 where

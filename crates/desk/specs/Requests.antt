@@ -39,7 +39,7 @@ abbrev pub file_of_task : Task → Option Text
 file_of_task task.Init = None
 file_of_task task.Migrate = None
 file_of_task (task.InOffice (job.Run errand)) = file_of errand
-file_of_task (task.InOffice (job.Replay file keep_going)) = Some file.now
+file_of_task (task.InOffice (job.Replay script)) = Some script.file.now
 
 -- the request id for the record with the given number: the order's id, a hyphen, and the number
 unfoldable pub id_at : Text → ℕ → Text

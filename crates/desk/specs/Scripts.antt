@@ -1,6 +1,6 @@
 -- The orders of a script: the lines of its text, the words of a line, and the order that those words mean.
 use Rattle.std.specs.Prelude.{◌≡◌, ◌≢◌, ◌⊎◌, ◌==◌, ◌&&◌, ◌||◌, ◌++◌, ℕ, suc, Bool, true, false, List, [], ◌∷◌, Option, Some, None, Result, Ok, Err}
-use Rattle.std.specs.Prelude.{codes, if◌then◌else◌, map, fold, string_bytes, IsOkAnd}
+use Rattle.std.specs.Prelude.{codes, if◌then◌else◌, length, map, nat_lt, fold, string_bytes, IsOkAnd}
 use Rattle.std.specs.List.{list_all, list_any}
 use Rattle.std.specs.Str.{is_utf8}
 use Rattle.clap.specs.Words.{Text, subcommand_of}
@@ -38,6 +38,26 @@ behind_byte_order_mark text = text
 -- the lines of a text; a byte order mark at the beginning is skipped
 abbrev pub lines_of : Text → List Text
 lines_of text = lines_from [] (behind_byte_order_mark text)
+
+-- ---- what is read of a text
+
+-- the whole lines of a text, given the beginning of the first one: each with its line feed, up to the last line feed
+abbrev pub whole_lines_from : Text → Text → Text
+whole_lines_from line [] = []
+whole_lines_from line (byte ∷ bytes) = if byte == 10 then line ++ byte ∷ whole_lines_from [] bytes else whole_lines_from (line ++ byte ∷ []) bytes
+
+-- the whole lines of a text: the text up to and including its last line feed
+abbrev pub whole_lines : Text → Text
+whole_lines text = whole_lines_from [] text
+
+-- the part of a text that is read: all of it; or only its whole lines, if its last line was cut
+abbrev pub part_read : Bool → Text → Text
+part_read false text = text
+part_read true text = whole_lines text
+
+-- whether the end of a text isn't read
+abbrev pub leaves_out : Bool → Text → Bool
+leaves_out cut text = nat_lt (length (part_read cut text)) (length text)
 
 -- ---- the words of a line
 
@@ -123,6 +143,10 @@ pub record Typed : Type 0 where
 abbrev pub typed_line : Numbered → Typed
 typed_line line = record { number = line.number; words = typed line.words }
 
+-- the numbered lines of the part of a text that is read, and whether its end is left out
+abbrev pub IsNumberedPart : Bool → List Numbered → Bool → Text → Type 0
+IsNumberedPart cut lines left_out text = (lines ≡ numbered_from 1 (lines_of (part_read cut text))) × (left_out ≡ leaves_out cut text)
+
 -- a script's lines
 abbrev pub script_lines : Text → List Typed
 script_lines text = map typed_line (numbered_from 1 (lines_of text))
@@ -160,15 +184,21 @@ abbrev pub AreTurns : List Typed → List ScriptStep → Type 0
 AreTurns [] turns = turns ≡ []
 AreTurns (line ∷ lines) turns = (turn : ScriptStep) × (others : List ScriptStep) × (turns ≡ turn ∷ others) × IsStep line turn × AreTurns lines others
 
--- the steps of a job: a single errand is one step, without a line number; the steps of a script are the errands that its lines mean
-abbrev pub HasSteps : Folder → Job → List ScriptStep → Type 0
-HasSteps folder (job.Run errand) turns = turns ≡ record { line = None; errand = errand } ∷ []
-HasSteps folder (job.Replay path keep_going) turns = (file : File) × IsFileAt folder (Some path.now) file × HoldsText file (λ text. AreTurns (script_lines text) turns)
+-- the part of a text that is read is a script with the given steps; and whether its end is left out
+abbrev pub IsScriptRead : Bool → Bool → List ScriptStep → Text → Type 0
+IsScriptRead cut left_out turns text = AreTurns (script_lines (part_read cut text)) turns × (left_out ≡ leaves_out cut text)
+
+-- The steps of a job, and whether the end of its script is left out. A single errand is one step, without a line number; the steps of a script are the errands that
+-- the lines mean which are read of it.
+abbrev pub HasSteps : Folder → Job → Bool → List ScriptStep → Type 0
+HasSteps folder (job.Run errand) left_out turns = (turns ≡ record { line = None; errand = errand } ∷ []) × (left_out ≡ false)
+HasSteps folder (job.Replay script) left_out turns =
+    (file : File) × IsFileAt folder (Some script.file.now) file × HoldsText file (IsScriptRead script.cut left_out turns)
 
 -- whether a job continues after refusals: a script does so with `keep_going`
 abbrev pub keeps_going : Job → Bool
 keeps_going (job.Run errand) = false
-keeps_going (job.Replay path keep_going) = keep_going
+keeps_going (job.Replay script) = script.keep_going
 
 -- ---- what is wrong with a line
 

@@ -1,5 +1,5 @@
 -- What is printed when nothing is sent: the answer to a question, or why a file is refused.
-use Rattle.std.specs.Prelude.{◌≡◌, ◌⊎◌, ℕ, List, Option, Some, None, Result, Ok, Err}
+use Rattle.std.specs.Prelude.{◌≡◌, ◌⊎◌, ℕ, Bool, List, Option, Some, None, Result, Ok, Err}
 use Rattle.register.specs.Offices.{OfficeState}
 use Rattle.register.specs.declared.command.Request.{Request}
 use Rattle.register.specs.declared.refusal.Reason.{Reason}
@@ -20,7 +20,7 @@ use Rattle.desk.specs.Folders.{File, Folder, IsFileAt}
 use Rattle.desk.specs.Overviews.{page_asked}
 use Rattle.desk.specs.Pages.{Page, page_counted, page_for, page_found, printed, refused, replied, script_page, unread}
 use Rattle.desk.specs.Requests.{is_first}
-use Rattle.desk.specs.Scripts.{IsFirstFlaw, script_lines}
+use Rattle.desk.specs.Scripts.{IsFirstFlaw, part_read, script_lines}
 use Rattle.desk.specs.Seals.{IsUnsealed}
 use Rattle.desk.specs.WardStatus.{status_text}
 use Rattle.desk.specs.Steps.{step_text}
@@ -66,13 +66,15 @@ IsTold s (errand.Print ward text) file page = page ≡ page_found printed (text_
 IsTold s (errand.PrintIndex title) file page = page ≡ page_found printed (index_answer title.now s)
 IsTold s (errand.Ask question) file page = page ≡ page_asked s question
 
--- why a file is refused as a script: it can't be opened or read, or the page says what is wrong with the first line that isn't understood
-abbrev pub IsRefusedScript : File → Page → Type 0
-IsRefusedScript None page = page ≡ unopened
-IsRefusedScript (Some told) page =
-    (page ≡ unopened) ⊎ ((number : ℕ) × (flaw : LineFlaw) × (page ≡ script_page (script.ScriptLine number flaw)) × Known told (λ text. IsFirstFlaw (script_lines text) number flaw))
+-- Why a file is refused as a script: it can't be opened or read, or the page says what is wrong with the first line that isn't understood. If the last line was cut,
+-- only the whole lines are read.
+abbrev pub IsRefusedScript : Bool → File → Page → Type 0
+IsRefusedScript cut None page = page ≡ unopened
+IsRefusedScript cut (Some told) page =
+    (page ≡ unopened)
+    ⊎ ((number : ℕ) × (flaw : LineFlaw) × (page ≡ script_page (script.ScriptLine number flaw)) × Known told (λ text. IsFirstFlaw (script_lines (part_read cut text)) number flaw))
 
 -- why the file of a job is refused as a script
 abbrev pub IsNoScript : Folder → Job → Page → Type 0
 IsNoScript folder (job.Run errand) page = ⊥
-IsNoScript folder (job.Replay path keep_going) page = (file : File) × IsFileAt folder (Some path.now) file × IsRefusedScript file page
+IsNoScript folder (job.Replay asked) page = (file : File) × IsFileAt folder (Some asked.file.now) file × IsRefusedScript asked.cut file page

@@ -15,7 +15,7 @@ mod counts;
 mod nominations;
 mod papers;
 mod receipts;
-mod words;
+pub(crate) mod words;
 
 use crate::journal::counts::put_count;
 use crate::journal::nominations::put_nominations;

@@ -34,7 +34,7 @@ pub(crate) struct Draft {
 }
 
 /// Returns the requests that the given steps send; None if a step does anything other than send a given request.
-fn requests_of(
+pub(crate) fn requests_of(
     alloc: Global,
     turns: Vec<ScriptStep<'_>>,
 ) -> Result<Option<Vec<Request>>, AllocError>

@@ -2,7 +2,7 @@
 
 ghost use Rattle.std.specs.Prelude.{◌≡◌, [], IfOk, OnOk, map, option_map};
 ghost use Rattle.desk.specs.Lexing.{lexer_entry};
-ghost use Rattle.desk.specs.Scripts.{behind_byte_order_mark, cut_byte, cut_open, is_blank, is_quote, lines_of, moved_to, passes_over, with_byte, with_word, words_cut, words_of};
+ghost use Rattle.desk.specs.Scripts.{behind_byte_order_mark, cut_byte, cut_open, is_blank, is_quote, lines_of, moved_to, part_read, passes_over, whole_lines, with_byte, with_word, words_cut, words_of};
 
 use std::alloc::{AllocError, Global};
 use std::mem;
@@ -148,6 +148,26 @@ fn behind_byte_order_mark(text: &[u8]) -> &[u8]
         [0xef, 0xbb, 0xbf, rest @ ..] => rest,
         _ => text,
     }
+}
+
+/// Returns the whole lines of a text: the text up to and including its last line feed.
+pub(crate) fn whole_lines(text: &[u8]) -> &[u8]
+    ensures { result.now ≡ whole_lines text.now }
+{
+    let mut end = 0;
+    for i in 0..text.len() {
+        if text[i] == b'\n' {
+            end = i + 1;
+        }
+    }
+    &text[..end]
+}
+
+/// Returns the part of a text that is read: all of it, or only its whole lines if its last line was cut.
+pub(crate) fn part_read(text: &[u8], cut: bool) -> &[u8]
+    ensures { result.now ≡ part_read cut text.now }
+{
+    if cut { whole_lines(text) } else { text }
 }
 
 /// Splits a text into lines. A line feed ends a line, and a byte order mark at the beginning is skipped.

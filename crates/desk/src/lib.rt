@@ -7,9 +7,9 @@
 //! [`journal_office`](journal_check) an order to print its journal, each on two connections; an order to serve is performed by
 //! the `server` crate. In an office that is already open, such as one that is being served, [`follow`](order_running) does a job,
 //! and `copy_open` and `journal_open` copy the office and print its journal. There [`mend_open`](mended_office) makes another
-//! office from that journal, with some orders left out and others replaced. [`files_named_in`](script_files) returns the paths
-//! of the files that a script names, for a client that sends them along with it. Which files, outputs and sockets these are is up
-//! to the program.
+//! office from that journal, with some orders left out and others replaced, and [`second_open`](second_record) compares the office
+//! with a second record of it. [`files_named_in`](script_files) returns the paths of the files that a script names, for a client
+//! that sends them along with it. Which files, outputs and sockets these are is up to the program.
 //!
 //! ```text
 //! match order(alloc, words) {
@@ -18,6 +18,7 @@
 //!         Order::Serve { .. }
 //!         | Order::Copy { .. }
 //!         | Order::Journal
+//!         | Order::Second { .. }
 //!         | Order::Mend(_)
 //!         | Order::Codes { .. }
 //!         | Order::Slips { .. },
@@ -59,7 +60,12 @@ pub mod perform;
 pub mod plain;
 mod printing;
 pub mod progress;
+pub mod record;
+mod request_lines;
+mod same_requests;
+pub mod script_record;
 mod sealing;
+pub mod second_record;
 mod sending;
 pub mod slips;
 mod steps;
@@ -74,9 +80,14 @@ pub use lines::{
     tell_slips, tell_words,
 };
 pub use mended_office::{MendTrial, mend_open};
-pub use order_running::follow;
-pub use orders::{Errand, ExpectedSeal, Form, Job, KeyingFile, MendOrder, Order, Question, Task};
+pub use order_running::{follow, follow_recorded};
+pub use orders::{
+    Errand, ExpectedSeal, Form, Job, KeyingFile, MendOrder, Order, Question, ReplayOrder, Task,
+};
 pub use progress::ProgressSink;
+pub use record::{NoRecord, Recorder};
 pub use script_files::files_named_in;
+pub use second_record::{SecondTrial, second_open};
+pub use script_record::{DurableSink, RecordFault, ScriptRecord};
 pub use slips::slips_of;
 pub use words::{WordsFault, order};

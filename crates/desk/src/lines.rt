@@ -4,7 +4,7 @@ ghost use Rattle.std.specs.Prelude.{◌≡◌, ◌⊎◌, ◌-◌, ◌^◌, ◌<
 ghost use Rattle.std.specs.List.{flat_map};
 ghost use Rattle.keyfile.specs.Faults.{flaw_batch, flaw_between, flaw_clerk};
 ghost use Rattle.desk.specs.Pages.{IsErrorTold, IsPut, Shows, fronted, line_front, migrated_text, note_line, noted, numbered_line, outputs_of, printed, status_of_file};
-ghost use Rattle.desk.specs.Pages.{failed, failure_number, failure_of, failure_text, no_form_text, page_of, refused, script_page, unformed, unjournalled, unmended, unread, unsealed, words_page};
+ghost use Rattle.desk.specs.Pages.{cut_note, failed, failure_number, failure_of, failure_text, no_form_text, page_of, refused, script_page, unformed, unjournalled, unmended, unread, unsealed, words_page};
 
 pub use crate::codes_lines::{
     tell_codes_and_office_made, tell_codes_fault, tell_codes_made, tell_slips,
@@ -21,6 +21,9 @@ use thiserror::Error;
 /// The message if replaying the journal doesn't reproduce its office, for example because the receipts and the other tables don't
 /// match.
 const NO_JOURNAL: &str = "no journal: what was written does not make this office";
+
+/// The note if the last line of a script was cut, and isn't read.
+const CUT_NOTE: &str = "note: the last line was cut, and is left out\n";
 
 /// The reason why there is no form.
 #[derive(Clone, Copy)]
@@ -54,6 +57,8 @@ pub(crate) enum LineOutcome {
     Unread(FileFault),
     /// The office reported a fault.
     Failed(Fault),
+    /// A request wasn't recorded a second time, so it isn't acknowledged.
+    Unrecorded,
     /// The copy was not confirmed.
     Uncopied(CopyFault),
     /// The office has no journal: the journal that was written doesn't reproduce the office.
@@ -64,11 +69,14 @@ pub(crate) enum LineOutcome {
     Unformed(NoForm),
     /// No new office was made from the journal. This text, whose lines are terminated, says why.
     Unmended(String),
+    /// A second record and the office aren't the same. This line, which is terminated, says how they differ.
+    Unequal(String),
 }
 
 /// The reason why the program fails. 101 to 106 and 108 are faults of the office. 107 is an output that failed. 109 is a copy
 /// that already exists, and 110 one that can't be written. 111 is an order that isn't allowed in an office that is being served.
-/// 113 is an office whose file was removed or replaced while it was being served.
+/// 112 is a request that wasn't recorded a second time. 113 is an office whose file was removed or replaced while it was being
+/// served.
 #[derive(Clone, Copy, Debug, PartialEq, Eq, Drop, Error)]
 #[error("{}", self.text())]
 pub enum Failure {
@@ -78,6 +86,7 @@ pub enum Failure {
     CopyFailed,
     BeingServed,
     FileGone,
+    SecondRecord,
 }
 
 impl Failure {
@@ -91,6 +100,7 @@ impl Failure {
             Failure::CopyFailed => 110,
             Failure::BeingServed => 111,
             Failure::FileGone => 113,
+            Failure::SecondRecord => 112,
         }
     }
 
@@ -104,6 +114,7 @@ impl Failure {
             Failure::CopyFailed => "copy not written",
             Failure::BeingServed => "office is being served",
             Failure::FileGone => "file gone or replaced",
+            Failure::SecondRecord => "second record",
         }
     }
 }
@@ -153,7 +164,7 @@ fn put_line<W: Sink>(line: Option<usize>, pieces: &[&str], sink: &mut W) -> Resu
 
 /// Prints a line, given in pieces, to the error output, with the line number as a prefix if it concerns a script's line. Returns
 /// the given status, or 3 if the error output fails.
-fn tell_error<E: Sink>(line: Option<usize>, pieces: &[&str], status: u8, err: &mut E) -> u8
+pub(crate) fn tell_error<E: Sink>(line: Option<usize>, pieces: &[&str], status: u8, err: &mut E) -> u8
     requires { E.failed err.old < 2 ^ 64 - 1 }
     ensures { IsErrorTold E.taken E.failed err.old err.new (line_front line ++ flat_map (λ piece. piece.now) pieces.now) status result }
 {
@@ -307,6 +318,14 @@ fn tell_unmended<E: Sink>(line: Option<usize>, text: &str, err: &mut E) -> u8
     tell_error(line_before(line, text), &[text], 1, err)
 }
 
+/// Prints that the last line of a script was cut and isn't read. Returns 0, or 3 if the error output fails.
+pub(crate) fn tell_cut_note<E: Sink>(err: &mut E) -> u8
+    requires { E.failed err.old < 2 ^ 64 - 1 }
+    ensures { IsErrorTold E.taken E.failed err.old err.new cut_note.err 0 result }
+{
+    tell_error(None, &[CUT_NOTE], 0, err)
+}
+
 /// Prints a failure and returns its status, 3.
 fn tell_failure_at<E: Sink>(line: Option<usize>, failure: Failure, err: &mut E) -> u8
     requires { E.failed err.old < 2 ^ 64 - 1 }
@@ -404,7 +423,7 @@ fn tell_noted<O: Sink, E: Sink>(
 
 /// Prints an outcome and returns its status. The status is 0 if the outcome is printed to the output. If it is printed to the
 /// error output, the status is 3 for a fault or a file that couldn't be read, and 1 otherwise. Status 1 means that a request or a
-/// file was refused, or that no seal, form, journal or mended office was made. The status is also 3 if either output fails, in
+/// file was refused, that no seal, form, journal or mended office was made, or that a second record and the office differ. The status is also 3 if either output fails, in
 /// which case only a prefix was written to it. If the outcome is that of a script's line, what is printed to the error output
 /// begins with the line number.
 pub(crate) fn tell<O: Sink, E: Sink>(
@@ -428,6 +447,7 @@ pub(crate) fn tell<O: Sink, E: Sink>(
         LineOutcome::Refused(refusal) => tell_refusal(line, refusal, err),
         LineOutcome::Unread(fault) => tell_file_fault(line, *fault, err),
         LineOutcome::Failed(fault) => tell_failure_at(line, Failure::Office(*fault), err),
+        LineOutcome::Unrecorded => tell_failure_at(line, Failure::SecondRecord, err),
         LineOutcome::Uncopied(fault) => tell_failure_at(line, failure_of(*fault), err),
         LineOutcome::Unjournalled => tell_no_journal(line, err),
         LineOutcome::Unsealed {
@@ -436,6 +456,7 @@ pub(crate) fn tell<O: Sink, E: Sink>(
         } => { tell_unsealed(line, *given_out, *expected, err) }
         LineOutcome::Unformed(why) => tell_unformed(line, *why, err),
         LineOutcome::Unmended(text) => tell_unmended(line, text.as_str(), err),
+        LineOutcome::Unequal(text) => tell_unmended(line, text.as_str(), err),
     }
 }
 

@@ -149,6 +149,12 @@ pub(crate) const SCRIPT: Word =
 pub(crate) const KEEP_GOING: Word =
     word!(Flag "keep-going", "Continues after refusals, each printed with its line, and then ends with status 1");
 
+pub(crate) const CUT: Word =
+    word!(Flag "cut", "Leaves out what follows the last line end, which was cut by a stop, and says so");
+
+pub(crate) const RECORD: Word =
+    word!(Text "FILE", "The path of a second record of the office, one request per line; such as its journal");
+
 pub(crate) const ID: Word =
     word!(Id "id", "An id that you choose for this order, 1 to 40 of a-z, 0-9 and -;\nan order sent again under the same id is done only once");
 

@@ -16,13 +16,13 @@ ghost use Rattle.desk.specs.Words.{digest_at, is_command_name, is_order_name, is
 ghost use Rattle.desk.specs.Words.{flag_at, public_at, texts_at};
 
 use crate::order_entry::{
-    ACTOR, ADDRESS, BATCH, CANDIDATE, CLERK, CLERKS, CODES, CODES_FILE, CONNECTIONS, DIGEST, Entry,
-    FILE, FIRST_CLERK, FORM, Heading, ID, ITS_CLERK, KEEP_GOING, MARKS, NAME, NEW, NEW_OFFICE,
-    ORIGIN, PAPER, PAPERS, PORT, PUBLIC, ROUND, SCRIPT, SEATS, SECOND_CLERK, SIZE, SOURCE, STAGE,
-    TITLE, VERDICT, WARD, WITH, WITH_OFFICE, WITHOUT, Word,
+    ACTOR, ADDRESS, BATCH, CANDIDATE, CLERK, CLERKS, CODES, CODES_FILE, CONNECTIONS, CUT, DIGEST,
+    Entry, FILE, FIRST_CLERK, FORM, Heading, ID, ITS_CLERK, KEEP_GOING, MARKS, NAME, NEW,
+    NEW_OFFICE, ORIGIN, PAPER, PAPERS, PORT, PUBLIC, RECORD, ROUND, SCRIPT, SEATS, SECOND_CLERK,
+    SIZE, SOURCE, STAGE, TITLE, VERDICT, WARD, WITH, WITH_OFFICE, WITHOUT, Word,
 };
 use crate::orders::{
-    Errand, ExpectedSeal, Form, Job, KeyingFile, MendOrder, Order, Question, Task,
+    Errand, ExpectedSeal, Form, Job, KeyingFile, MendOrder, Order, Question, ReplayOrder, Task,
 };
 use crate::requests::{by_clerk, by_office};
 use crate::verdicts::verdict_in;
@@ -73,7 +73,7 @@ const ORDERS_TO_SEAL: [Entry; 13] = [
 /// The other orders: those from the seal on, in the same order; then `migrate`; then those for the office alone; and then those for
 /// everyone.
 #[rattlefmt::skip]
-const ORDERS_FROM_SEAL: [Entry; 29] = [
+const ORDERS_FROM_SEAL: [Entry; 30] = [
     order!(Election "seal" [WARD, ID, PAPERS], "Seals a ward whose papers are all agreed and judged:\ncount-office town.db seal 7 --id s1"),
     order!(Election "advance" [WARD, ID], "Counts the one stage that is due in a sealed ward:\ncount-office town.db advance 7 --id a1"),
     order!(Election "count" [WARD, ID], "Counts a sealed ward up to a lot or the end, its first stage under ID-1:\ncount-office town.db count 7 --id a"),
@@ -93,7 +93,8 @@ const ORDERS_FROM_SEAL: [Entry; 29] = [
     order!(Office "fields" [BATCH, ITS_CLERK], "Prints how many fields the marks of each paper of a batch have, and for whom:\ncount-office town.db fields 12"),
     order!(Office "receipts" [ACTOR], "Prints what was accepted, under which id, of an actor or of all:\ncount-office town.db receipts 0"),
     order!(Office "journal" [], "Prints the accepted orders of the office as a script, whole:\ncount-office town.db journal"),
-    order!(Office "replay" [SCRIPT, KEEP_GOING], "Sends the orders of a text file, one per line, up to a refusal:\ncount-office town.db replay evening.txt"),
+    order!(Office "replay" [SCRIPT, KEEP_GOING, CUT], "Sends the orders of a text file, one per line, up to a refusal:\ncount-office town.db replay evening.txt"),
+    order!(Office "second" [RECORD], "Says whether a second record, such as a journal, holds the same as the office:\ncount-office town.db second town.script"),
     order!(Office "copy" [NEW], "Makes a copy of the office, in a file that isn't there yet:\ncount-office town.db copy evening.db"),
     order!(Office "mend" [NEW_OFFICE, WITHOUT, WITH],
         "Makes a new office from the journal, without some orders, or with others in their place:\ncount-office town.db mend new.db --with \"judge 13 6 reject:4 --id v2\""),
@@ -433,10 +434,11 @@ fn counting<'a>(matches: &ArgMatches<'a>) -> Order<'a>
 fn replay<'a>(matches: &ArgMatches<'a>) -> Order<'a>
     ensures { meaning_of (codes "replay") (rows_of (found_of matches.now)) ≡ Some (told result) }
 {
-    Order::Perform(Task::InOffice(Job::Replay {
+    Order::Perform(Task::InOffice(Job::Replay(ReplayOrder {
         file: text_in(matches, SCRIPT),
         keep_going: flag_in(matches, KEEP_GOING),
-    }))
+        cut: flag_in(matches, CUT),
+    })))
 }
 
 /// Returns the order that makes a new office from this one's journal, and says whether the new one takes over.
@@ -645,6 +647,9 @@ fn order_named<'a>(
         "forms" => forms(matches),
         "journal" => Ok(Order::Journal),
         "replay" => Ok(replay(matches)),
+        "second" => Ok(Order::Second {
+            path: text_in(matches, RECORD),
+        }),
         "copy" => Ok(Order::Copy {
             path: text_in(matches, NEW),
         }),

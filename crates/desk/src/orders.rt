@@ -29,6 +29,15 @@ pub struct ExpectedSeal<'a> {
     pub id: &'a str,
 }
 
+/// An order to run the errands of a script one after the other, up to the first refusal; with `keep_going`, also after refusals. With
+/// `cut`, only the whole lines of the file are read: its last line was cut by a stop.
+#[derive(Clone, Copy, Debug)]
+pub struct ReplayOrder<'a> {
+    pub file: &'a str,
+    pub keep_going: bool,
+    pub cut: bool,
+}
+
 /// A form of a ward, to be printed and filled in by hand.
 #[derive(Clone, Copy, Debug)]
 pub enum Form {
@@ -147,8 +156,8 @@ impl<'a> Errand<'a> {
 pub enum Job<'a> {
     /// Run this errand.
     Run(Errand<'a>),
-    /// Run the errands of a script one after the other, up to the first refusal; with `keep_going`, continue after refusals.
-    Replay { file: &'a str, keep_going: bool },
+    /// Run the errands of a script.
+    Replay(ReplayOrder<'a>),
 }
 
 /// A task that needs nothing but a connection to the office's database.
@@ -169,7 +178,7 @@ impl<'a> Task<'a> {
     {
         match self {
             Task::InOffice(Job::Run(errand)) => errand.file(),
-            Task::InOffice(Job::Replay { file, .. }) => Some(file),
+            Task::InOffice(Job::Replay(script)) => Some(script.file),
             Task::Init | Task::Migrate => None,
         }
     }
@@ -196,6 +205,10 @@ pub enum Order<'a> {
     },
     /// Print the journal of the office.
     Journal,
+    /// Compare the office with a second record of it, in the file at this path.
+    Second {
+        path: &'a str,
+    },
     /// Make a new office, in a file that doesn't exist yet, from this one's journal, with some orders left out and others replaced.
     /// If it takes over, it then takes the place of this office.
     Mend(MendOrder<'a>),

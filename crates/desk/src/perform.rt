@@ -6,33 +6,38 @@ ghost use Rattle.sqlite.specs.Held.{state};
 ghost use Rattle.desk.specs.Folders.{Folder as Held};
 ghost use Rattle.desk.specs.Headline.{Headline};
 ghost use Rattle.desk.specs.Pages.{Tells, outputs_of};
+ghost use Rattle.desk.specs.RecordedOrders.{HeadlineRecorded};
 
 use crate::folders::Folder;
 use crate::lines::{LineOutcome, tell};
-use crate::order_running::follow;
+use crate::order_running::follow_recorded;
 use crate::orders::{Job, Task};
+use crate::record::{NoRecord, Recorder};
 use office::Office;
 use sqlite::{Alter, Connection};
 use std::alloc::Global;
 use streams::Sink;
 
-/// Opens the office on a connection and does a job in it.
-fn in_office<S: Alter, F: Folder, O: Sink, E: Sink>(
+/// Opens the office on a connection and does a job in it, recording each accepted request.
+fn in_office<S: Alter, F: Folder, R: Recorder, O: Sink, E: Sink>(
     alloc: Global,
     job: &Job<'_>,
     conn: Connection<S>,
     folder: &F,
+    recorder: &mut R,
     out: &mut O,
     err: &mut E,
 ) -> (u8, Connection<S>)
     requires out { O.failed out.old < 2 ^ 64 - 1 }
     requires err { E.failed err.old < 2 ^ 64 - 1 }
     ensures { let outputs = outputs_of O.taken O.failed E.taken E.failed in Tells (outputs out.old err.old) (outputs out.new err.new) result.0
-        (λ cut page. HasCleanDisk (state S.Store result.1) → Headline (F.held folder.now) (Task.InOffice job.now) cut page result.0 (state S.Store conn) (state S.Store result.1)) }
+        (λ cut page. HasCleanDisk (state S.Store result.1) → HeadlineRecorded
+        (record { there = R.records recorder.old; found_old = R.found recorder.old; found_new = R.found recorder.new; failed_old = R.failed recorder.old; failed_new = R.failed recorder.new })
+        (F.held folder.now) (Task.InOffice job.now) cut page result.0 (state S.Store conn) (state S.Store result.1)) }
 {
     match Office::open_from(alloc, conn) {
         Ok(mut office) => {
-            let status = follow(alloc, &mut office, job, folder, out, err);
+            let status = follow_recorded(alloc, &mut office, job, folder, recorder, out, err);
             (status, office.into_connection())
         }
         Err((fault, conn)) => (tell(None, &LineOutcome::Failed(fault), out, err), conn),
@@ -78,6 +83,38 @@ fn migrate_office<S: Alter, O: Sink, E: Sink>(
     }
 }
 
+/// Performs a task as [`perform`](self::perform) does, for an office with a second record. Each request that the office accepts is
+/// recorded before its reply is printed.
+///
+/// If recording a request fails, it isn't acknowledged: fault 112 is printed, with status 3, and the task ends. The request remains in
+/// effect in the office, and the record contains it or not.
+///
+/// Suppose that a stop before the task would have left a record of the office's state. Then a stop at any time leaves the office and
+/// the record each in the state after the accepted requests in a prefix of all requests ever sent. Both prefixes contain every
+/// answered request and at most one more. `init` and `migrate` record nothing.
+pub fn perform_recorded<S: Alter, F: Folder, R: Recorder, O: Sink, E: Sink>(
+    alloc: Global,
+    task: &Task<'_>,
+    conn: Connection<S>,
+    folder: &F,
+    recorder: &mut R,
+    out: &mut O,
+    err: &mut E,
+) -> (u8, Connection<S>)
+    requires out { O.failed out.old < 2 ^ 64 - 1 }
+    requires err { E.failed err.old < 2 ^ 64 - 1 }
+    ensures headline { let outputs = outputs_of O.taken O.failed E.taken E.failed in Tells (outputs out.old err.old) (outputs out.new err.new) result.0
+        (λ cut page. HasCleanDisk (state S.Store result.1) → HeadlineRecorded
+        (record { there = R.records recorder.old; found_old = R.found recorder.old; found_new = R.found recorder.new; failed_old = R.failed recorder.old; failed_new = R.failed recorder.new })
+        (F.held folder.now) task.now cut page result.0 (state S.Store conn) (state S.Store result.1)) }
+{
+    match task {
+        Task::Init => make_office(alloc, conn, out, err),
+        Task::Migrate => migrate_office(alloc, conn, out, err),
+        Task::InOffice(job) => in_office(alloc, job, conn, folder, recorder, out, err),
+    }
+}
+
 /// Performs a task on an open connection, prints the resulting lines, and returns the exit status and the connection.
 ///
 /// `folder` opens the file that the task names, once the office is open, and each import file that a script names, when it is
@@ -116,9 +153,5 @@ pub fn perform<S: Alter, F: Folder, O: Sink, E: Sink>(
     ensures headline { let outputs = outputs_of O.taken O.failed E.taken E.failed in Tells (outputs out.old err.old) (outputs out.new err.new) result.0
         (λ cut page. HasCleanDisk (state S.Store result.1) → Headline (F.held folder.now) task.now cut page result.0 (state S.Store conn) (state S.Store result.1)) }
 {
-    match task {
-        Task::Init => make_office(alloc, conn, out, err),
-        Task::Migrate => migrate_office(alloc, conn, out, err),
-        Task::InOffice(job) => in_office(alloc, job, conn, folder, out, err),
-    }
+    perform_recorded(alloc, task, conn, folder, &mut NoRecord, out, err)
 }

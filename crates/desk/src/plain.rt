@@ -34,7 +34,8 @@ impl<R: Read + Drop> Folder for OneFile<R> {
 /// connection.
 ///
 /// `file` is `None` if the file couldn't be opened. This is [`perform`](crate::perform::perform) with a folder of that one file, so
-/// the import files that a script names can't be opened. It accepts any order except those to serve, to copy, to print a journal,
+/// the import files that a script names can't be opened. It accepts any order except those to serve, to copy, to print a journal, to
+/// compare the office with a second record,
 /// to mend, to make codes, or to print slips.
 pub fn perform<S: Alter, R: Read + Drop, O: Sink, E: Sink>(
     alloc: Global,
@@ -57,6 +58,7 @@ pub fn perform<S: Alter, R: Read + Drop, O: Sink, E: Sink>(
         Order::Perform(task) => { crate::perform::perform(alloc, task, conn, &folder, out, err) }
         Order::Copy { .. } => unreachable!(),
         Order::Journal => unreachable!(),
+        Order::Second { .. } => unreachable!(),
         Order::Mend(_) => unreachable!(),
         Order::Codes { .. } => unreachable!(),
         Order::Slips { .. } => unreachable!(),

@@ -2,7 +2,7 @@
 //!
 //! Each accepted request is recorded before it is acknowledged. Once a record has failed, nothing more is recorded.
 
-ghost use Rattle.std.specs.Prelude.{◌≡◌, Bool, IfErr, OnErr, OnOk, true, false, ⊥};
+ghost use Rattle.std.specs.Prelude.{◌≡◌, Bool, OnErr, OnOk, true, false};
 ghost use Rattle.clap.specs.Words.{Text};
 ghost use Rattle.desk.specs.Records.{Records};
 
@@ -22,7 +22,8 @@ pub trait Recorder {
 
     /// Returns whether the record failed.
     fn has_failed(&self) -> bool
-        ensures { result ≡ failed self.now };
+        ensures value { result ≡ failed self.now }
+        ensures recorded { failed self.now ≡ true → records self.now ≡ true };
 
     /// Records a request that the office has accepted. When this returns `Ok`, the request survives a stop.
     ///
@@ -35,6 +36,7 @@ pub trait Recorder {
 }
 
 /// No second record.
+#[derive(Drop)]
 pub struct NoRecord;
 
 impl Recorder for NoRecord {

@@ -164,10 +164,10 @@ fn errand_of(order: Order<'_>) -> Option<Errand<'_>>
 {
     match order {
         Order::Perform(Task::InOffice(Job::Run(errand))) => Some(errand),
-        Order::Perform(Task::InOffice(Job::Replay { .. })) => None,
+        Order::Perform(Task::InOffice(Job::Replay(_))) => None,
         Order::Perform(Task::Init | Task::Migrate) => None,
         Order::Copy { .. } | Order::Journal | Order::Mend(_) | Order::Serve { .. } => None,
-        Order::Codes { .. } | Order::Slips { .. } => None,
+        Order::Second { .. } | Order::Codes { .. } | Order::Slips { .. } => None,
     }
 }
 

@@ -15,7 +15,7 @@
 #![tactic(auto)]
 
 // the name and the subject of an order, and the ward or batch that it is about
-mod names;
+pub mod names;
 mod places;
 // the changes, and why they can't be made
 pub mod changes;
@@ -28,4 +28,5 @@ pub mod reports;
 pub use changes::{Changes, Flaw};
 pub use checking::flaw_in;
 pub use mended::{Mended, mend};
+pub use names::subject_of;
 pub use recipients::{MendFault, Recipient, Sent};

@@ -82,8 +82,8 @@ fn count_subject(alloc: Global, command: &CountCommand) -> Result<String, AllocE
 }
 
 #[tactic(auto, unfolding(register::specs::Keyings::subject_of, register::specs::Verdicts::subject_of))]
-/// Returns the subject of a command, as in the receipt of its order.
-pub(crate) fn subject_of(alloc: Global, command: &Command) -> Result<String, AllocError>
+/// Returns the subject of a command, as in the receipt of its order. Fails if an allocation fails.
+pub fn subject_of(alloc: Global, command: &Command) -> Result<String, AllocError>
     ensures { IfOk result (λ text. string_bytes text ≡ subject_of command.now) }
 {
     match command {

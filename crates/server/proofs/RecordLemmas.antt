@@ -6,8 +6,8 @@ use Rattle.register.specs.Machine.{after, after_one}
 use Rattle.register.specs.declared.command.Request.{Request}
 use Rattle.office.specs.Answers.{IsOpenAt, Told}
 use Rattle.desk.specs.Folders.{Folder}
-use Rattle.desk.specs.Headline.{Course, IsAnswered, IsAnsweredBy, IsDoneBy, IsPlayedBy, IsSentBy, IsStopped, IsUnrecorded, IsUnsent, answer, ended, told_above}
-use Rattle.desk.specs.Pages.{Cut, Page, fronted}
+use Rattle.desk.specs.Headline.{Course, IsAnswered, IsAnsweredBy, IsBegunBy, IsDoneBy, IsPlayedBy, IsSentBy, IsStopped, IsUnrecorded, IsUnsent, answer, ended, told_above}
+use Rattle.desk.specs.Pages.{Cut, Page, cut_note, fronted}
 use Rattle.desk.specs.Scripts.{keeps_going}
 use Rattle.desk.specs.Told.{IsTold, page_answered}
 use Rattle.desk.specs.declared.orders.Job.{Job}
@@ -73,8 +73,12 @@ module _ (recorded : Bool) (old : State) (closed : Bool) (st : State) where
   open_played keep folder s (turn ∷ turns) c (file, found, inr unsent) =
       open_unsent keep turn.line (IsTold s turn.errand file) s c (λ e more. open_played keep folder s turns e more) unsent
 
+  open_begun : (left_out keep : Bool) (folder : Folder) (s : OfficeState) (turns : List _) (c : Course) → IsBegunBy recorded old closed st left_out keep folder s turns c → IsOpenBy s c
+  open_begun false keep folder s turns c begun = open_played keep folder s turns c begun
+  open_begun true keep folder s turns c begun = open_unsent false None (λ page. page ≡ cut_note) s c (λ e more. open_played keep folder s turns e more) begun
+
   pub open_done_by : (folder : Folder) (s : OfficeState) (job : Job) (c : Course) → IsDoneBy recorded old closed st folder s job c → IsOpenBy s c
-  open_done_by folder s job c (inl (turns, are, played)) = open_played (keeps_going job) folder s turns c played
+  open_done_by folder s job c (inl (left_out, turns, are, begun)) = open_begun left_out (keeps_going job) folder s turns c begun
   open_done_by folder s job c (inr unsent) = open_unsent false None _ s c (λ e never. absurd never) unsent
 
 -- ---- a job that was done with a record that failed only if there is one
@@ -111,6 +115,11 @@ module _ (failed recorded : Bool) (fails : failed ≡ true → recorded ≡ true
   played_recorded keep folder s (turn ∷ turns) c (file, found, inr unsent) =
       (file, found, inr (unsent_recorded keep turn.line (IsTold s turn.errand file) s c (λ e more. played_recorded keep folder s turns e more) unsent))
 
+  begun_recorded : (left_out keep : Bool) (folder : Folder) (s : OfficeState) (turns : List _) (c : Course) → IsBegunBy failed old closed st left_out keep folder s turns c
+      → IsBegunBy recorded old closed st left_out keep folder s turns c
+  begun_recorded false keep folder s turns c begun = played_recorded keep folder s turns c begun
+  begun_recorded true keep folder s turns c begun = unsent_recorded false None (λ page. page ≡ cut_note) s c (λ e more. played_recorded keep folder s turns e more) begun
+
   pub done_recorded : (folder : Folder) (s : OfficeState) (job : Job) (c : Course) → IsDoneBy failed old closed st folder s job c → IsDoneBy recorded old closed st folder s job c
-  done_recorded folder s job c (inl (turns, are, played)) = inl (turns, are, played_recorded (keeps_going job) folder s turns c played)
+  done_recorded folder s job c (inl (left_out, turns, are, begun)) = inl (left_out, turns, are, begun_recorded left_out (keeps_going job) folder s turns c begun)
   done_recorded folder s job c (inr unsent) = inr unsent

@@ -69,6 +69,7 @@ abbrev pub IsForNone : Order → Type 0
 IsForNone (order.Perform task.Init) = ⊤
 IsForNone (order.Perform task.Migrate) = ⊤
 IsForNone (order.Serve port connections origin codes public) = ⊤
+IsForNone (order.Second path) = ⊤
 IsForNone (order.Codes path clerks with_office) = ⊤
 IsForNone (order.Slips path address) = ⊤
 IsForNone other = ⊥

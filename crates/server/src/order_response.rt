@@ -373,8 +373,8 @@ fn respond_to_message<L: Stream, A: ServedFile, S: Alter, R: Recorder>(
 /// and returns the stream.
 ///
 /// The response is fault 102, as for a file locked by another program, if the bytes aren't a message, or if the order comes
-/// from another version of the program or is for another file. For `init`, `migrate`, `serve`, `codes` and `forms slips`, the
-/// response says that the office is being served (111). If the record has failed, the response to a job says so (112).
+/// from another version of the program or is for another file. For `init`, `migrate`, `serve`, `second`, `codes` and `forms slips`,
+/// the response says that the office is being served (111). If the record has failed, the response to a job says so (112).
 pub fn answer_order<L: Stream, A: ServedFile, S: Alter, R: Recorder>(
     alloc: Global,
     server_settings: ServerSettings<'_, A>,

@@ -70,7 +70,7 @@ pub fn is_for_file(handed: &OrderMessage<'_>, file: FileNumbers) -> bool
         && handed.inode == file.inode
 }
 
-/// Returns what an order for the served file asks for. The orders `init`, `migrate`, `serve`, `codes` and `forms slips` are
+/// Returns what an order for the served file asks for. The orders `init`, `migrate`, `serve`, `second`, `codes` and `forms slips` are
 /// refused, because the office is being served. (On the command line, the program carries out the last two without the server.)
 pub fn served_order_by<'w>(alloc: Global, words: &'w [&'w str]) -> ServedOrder<'w>
     ensures { (whole : Option Bool) (recorded : Bool) → AsksSo whole recorded (map (λ word. word.now) words.entry.now) result }
@@ -83,6 +83,7 @@ pub fn served_order_by<'w>(alloc: Global, words: &'w [&'w str]) -> ServedOrder<'
         Ok(
             Order::Perform(Task::Init | Task::Migrate)
             | Order::Serve { .. }
+            | Order::Second { .. }
             | Order::Codes { .. }
             | Order::Slips { .. },
         ) => { ServedOrder::Refused(Failure::BeingServed) }

@@ -159,6 +159,7 @@ fn give<S: Alter + Drop, O: Sink, E: Sink>(
             Order::Serve { .. }
             | Order::Copy { .. }
             | Order::Journal
+            | Order::Second { .. }
             | Order::Mend(_)
             | Order::Codes { .. }
             | Order::Slips { .. },

@@ -27,42 +27,57 @@ pub(crate) fn put_id(text: &mut String, id: &str) -> Result<(), AllocError> {
     text.push_str(id)
 }
 
+/// Appends the line of an order with the given id.
+pub(crate) fn put_line(text: &mut String, words: &str, id: &str) -> Result<(), AllocError> {
+    text.push_str(words)?;
+    put_id(text, id)?;
+    text.push_str("\n")
+}
+
+/// Appends the line of an order whose words end with a name. A name that begins with a hyphen is written after `--`, which ends the
+/// options.
+pub(crate) fn put_named_line(
+    text: &mut String,
+    words: &str,
+    name: &str,
+    id: &str,
+) -> Result<(), AllocError> {
+    text.push_str(words)?;
+    if name.starts_with("-") {
+        put_id(text, id)?;
+        text.push_str(" -- ")?;
+        put_quoted(text, name)?;
+    } else {
+        text.push_str(" ")?;
+        put_quoted(text, name)?;
+        put_id(text, id)?;
+    }
+    text.push_str("\n")
+}
+
 /// Appends the line of an order, with the id of its receipt. Appends nothing if there is no receipt.
 pub(crate) fn put_order(
     text: &mut String,
     words: &str,
     receipt: Option<&Receipt>,
 ) -> Result<(), AllocError> {
-    let Some(receipt) = receipt else {
-        return Ok(());
-    };
-    text.push_str(words)?;
-    put_id(text, receipt.id.as_str())?;
-    text.push_str("\n")
+    match receipt {
+        Some(receipt) => put_line(text, words, receipt.id.as_str()),
+        None => Ok(()),
+    }
 }
 
-/// Appends the line of an order whose words end with a name. A name that begins with a hyphen is written after `--`, which ends the
-/// options.
+/// Appends the line of an order whose words end with a name, with the id of its receipt. Appends nothing if there is no receipt.
 pub(crate) fn put_named(
     text: &mut String,
     words: &str,
     name: &str,
     receipt: Option<&Receipt>,
 ) -> Result<(), AllocError> {
-    let Some(receipt) = receipt else {
-        return Ok(());
-    };
-    text.push_str(words)?;
-    if name.starts_with("-") {
-        put_id(text, receipt.id.as_str())?;
-        text.push_str(" -- ")?;
-        put_quoted(text, name)?;
-    } else {
-        text.push_str(" ")?;
-        put_quoted(text, name)?;
-        put_id(text, receipt.id.as_str())?;
+    match receipt {
+        Some(receipt) => put_named_line(text, words, name, receipt.id.as_str()),
+        None => Ok(()),
     }
-    text.push_str("\n")
 }
 
 /// Appends a comment. The text must not contain a newline.

@@ -1,12 +1,16 @@
 -- Proof that `count_stages` meets its contract.
-use Rattle.std.proofs.Common.{◌≡◌, ◌≢◌, ◌∙◌, ◌<◌, false, true≢false, length, sym, subst, arith}
+use Rattle.std.proofs.Common.{◌≡◌, ◌≢◌, ◌∙◌, ◌<◌, ◌∷◌, [], false, true≢false, length, refl, sym, subst, arith}
 use Rattle.sqlite.specs.Held.{state}
 use Rattle.store.proofs.KeepLemmas.{connection_itself, connection_then}
-use Rattle.desk.specs.Pages.{below, cut_below, uncut, empty_page, fronted, page_of}
-use Rattle.desk.specs.Parts.{IsStage}
+use Rattle.desk.specs.Headline.{ended, told_above}
+use Rattle.desk.specs.Pages.{below, cut_below, uncut, empty_page, fronted, page_counted, page_of}
+use Rattle.desk.specs.Parts.{IsStageBy}
+use Rattle.desk.specs.Records.{IsRecordOf}
 use Rattle.desk.proofs.CauseLemmas.{since}
+use Rattle.desk.proofs.CourseLemmas.{few_answered, nothing_more, replied_after}
 use Rattle.desk.proofs.PageLemmas.{fronted_status, shown_last, whole_more}
-use Rattle.desk.proofs.StageLemmas.{none_counted, stage_last, stage_more, stage_since, stages_all}
+use Rattle.desk.proofs.RecordLemmas.{recorded_all, recorded_end, recorded_last}
+use Rattle.desk.proofs.StageLemmas.{none_counted, page_under, stage_last, stage_more, stage_since, stages_all}
 use Rattle.desk.proofs.TellingLemmas.{goes_after_zero, nothing_told, shown_else, shown_whole, shown_zero, told_all}
 use Rattle.desk.proofs.counting.count_stages.Goals as goal
 
@@ -14,7 +18,8 @@ pub loop-request-init : goal.loop-request-init
 loop-request-init g c = record {
   keeps_connection = connection_itself (state g.S.Store c.args.office.now.held);
   clean = λ clean. clean;
-  so_far = record { said = _; shown = nothing_told _; is = λ clean is_open s at keep ward id are. none_counted keep _ s ward id _ _ _ (record { is_open = is_open; at = at }) are };
+  same = refl;
+  so_far = record { said = _; shown = nothing_told _; is = λ clean is_open s at keep ward id are. (none_counted keep _ s ward id _ _ _ (record { is_open = is_open; at = at }) are, λ fine. (fine, λ was. was)) };
 }
 
 pub loop-request-preserved : goal.loop-request-preserved
@@ -35,16 +40,27 @@ loop-request-preserved g c =
     record {
       keeps_connection = connection_then first mid next c.stage_of-outcome.ensures.clean c.loop-request.invariant.keeps_connection c.stage_of-outcome.ensures.keeps_connection;
       clean = λ clean. c.loop-request.invariant.clean (c.stage_of-outcome.ensures.clean clean);
+      same = c.stage_of-outcome.ensures.same ∙ c.loop-request.invariant.same;
       so_far = record {
         said = below so_far.said (fronted line page);
         shown = rw zero at (whole_more _ _ _ so_far.said (fronted line page) 0 c.tell-status.result so_far.shown
             (shown_whole false told.0 _ _ (fronted line page) c.tell-status.result told.1 (goes_after_zero false c.tell-status.result zero)));
         is = λ clean is_open s at keep ward id are.
             let so = so_far.is (c.stage_of-outcome.ensures.clean clean) is_open s at keep ward id are in
-            let it = c.stage_of-outcome.ensures.told clean so.open_at.is_open so.end so.open_at.at in
+            let it = c.stage_of-outcome.ensures.told clean so.0.open_at.is_open so.0.end so.0.open_at.at in
             let known_is = rw (c.as_str.ensures.value, c.first_id-first.ensures ward id are) at c.eq-is_first.ensures in
-            stage_more first keep line s ward id rs mid i c.request-item.result so_far.said c.loop-request.office.closed mid page closed next within c.request-item.is so c.eq-is_first.result known_is
-            (subst (IsStage mid closed next c.eq-is_first.result so.end c.request-item.result page) c.if-not-more.false it) (sym (fronted_status line page) ∙ fine.1);
+            let recorded = g.R.Recorder.records c.loop-request.recorder in
+            let more = stage_more recorded first keep line s ward id rs mid i c.request-item.result so_far.said c.loop-request.office.closed mid page it.0 closed next within c.request-item.is so.0
+            c.eq-is_first.result known_is
+            (subst (IsStageBy recorded mid closed next c.eq-is_first.result so.0.end c.request-item.result page it.0) c.if-not-more.false it.1) (sym (fronted_status line page) ∙ fine.1) in
+            let found = g.R.Recorder.found c.stage_of-outcome.new.recorder in (
+              more.0,
+              λ unfailed.
+                  let before = so.1 unfailed in
+                  let kept = it.2 before.0 in
+                  (kept.unfailed more.2, λ was. subst (IsRecordOf found) (sym more.1) (recorded_all so.0.end (c.request-item.result ∷ []) it.0 (g.R.Recorder.found c.loop-request.recorder) found
+                  (g.R.Recorder.failed c.stage_of-outcome.new.recorder) more.2 kept (before.1 was))),
+            );
       };
     }
 
@@ -72,12 +88,27 @@ returns-then-status-ne0-clause-counted g c =
           let so = so_far.is honest is_open s at keep ward id are in
           let tells = since first mid next honest c.loop-request.invariant.keeps_connection c.stage_of-outcome.ensures.keeps_connection in
           let known_is = rw (c.as_str.ensures.value, c.first_id-first.ensures ward id are) at c.eq-is_first.ensures in
-          let it = stage_since first mid closed next c.eq-is_first.result so.end c.request-item.result page c.stage_of-outcome.result.1 tells
-          (c.stage_of-outcome.ensures.told clean so.open_at.is_open so.end so.open_at.at) in
-          let counted = stage_last first keep line s ward id rs i c.request-item.result so_far.said c.loop-request.office.closed mid page told.0
-          c.stage_of-outcome.result.1 closed next within c.request-item.is so c.eq-is_first.result known_is it
+          let it = c.stage_of-outcome.ensures.told clean so.0.open_at.is_open so.0.end so.0.open_at.at in
+          let recorded = g.R.Recorder.records c.args.recorder.now in
+          let first_is = c.eq-is_first.result in
+          let goes = c.stage_of-outcome.result.1 in
+          let r = c.request-item.result in
+          let met = subst (λ b. IsStageBy b mid closed next first_is so.0.end r page it.0 goes) c.loop-request.invariant.same it.1 in
+          let stage = stage_since recorded first mid closed next first_is so.0.end r page it.0 goes tells met in
+          let counted = stage_last recorded first keep line s ward id rs i r so_far.said c.loop-request.office.closed mid page told.0 it.0
+          goes closed next within c.request-item.is so.0 first_is known_is stage
           (λ yes zero. shown_else told.0 _ _ (fronted line page) c.tell-status.result told.1 other (fronted_status line page ∙ zero)) in
-          (_, _, counted.2);
+          let course = told_above so.0.front so_far.said (ended line (r ∷ counted.0) it.0 page told.0) in (
+            course.requests,
+            course.answered,
+            counted.1,
+            λ unfailed.
+                let before = so.1 unfailed in
+                recorded_last s so.0.end so.0.front r counted.0 it.0 (g.R.Recorder.found c.args.recorder.now) (g.R.Recorder.found c.loop-request.recorder)
+                (g.R.Recorder.found c.stage_of-outcome.new.recorder) (g.R.Recorder.failed c.stage_of-outcome.new.recorder)
+                (replied_after keep line (page_under id) s so.0.front so_far.said so.0.end so.0.replied) before.1
+                (few_answered recorded mid closed next (λ t q. page_counted first_is) so.0.end r it.0 page met.0) (it.2 before.0),
+          );
     }
 
 pub returns-then-status-ne0-clause-keeps_connection : goal.returns-then-status-ne0-clause-keeps_connection
@@ -111,12 +142,27 @@ returns-then-not-more-clause-counted g c =
           let so = so_far.is honest is_open s at keep ward id are in
           let tells = since first mid next honest c.loop-request.invariant.keeps_connection c.stage_of-outcome.ensures.keeps_connection in
           let known_is = rw (c.as_str.ensures.value, c.first_id-first.ensures ward id are) at c.eq-is_first.ensures in
-          let it = stage_since first mid closed next c.eq-is_first.result so.end c.request-item.result page c.stage_of-outcome.result.1 tells
-          (c.stage_of-outcome.ensures.told clean so.open_at.is_open so.end so.open_at.at) in
-          let counted = stage_last first keep line s ward id rs i c.request-item.result so_far.said c.loop-request.office.closed mid page told.0
-          c.stage_of-outcome.result.1 closed next within c.request-item.is so c.eq-is_first.result known_is it
+          let it = c.stage_of-outcome.ensures.told clean so.0.open_at.is_open so.0.end so.0.open_at.at in
+          let recorded = g.R.Recorder.records c.args.recorder.now in
+          let first_is = c.eq-is_first.result in
+          let goes = c.stage_of-outcome.result.1 in
+          let r = c.request-item.result in
+          let met = subst (λ b. IsStageBy b mid closed next first_is so.0.end r page it.0 goes) c.loop-request.invariant.same it.1 in
+          let stage = stage_since recorded first mid closed next first_is so.0.end r page it.0 goes tells met in
+          let counted = stage_last recorded first keep line s ward id rs i r so_far.said c.loop-request.office.closed mid page told.0 it.0
+          goes closed next within c.request-item.is so.0 first_is known_is stage
           (λ yes none. absurd (true≢false (sym yes ∙ c.if-not-more.true))) in
-          (_, _, counted.2);
+          let course = told_above so.0.front so_far.said (ended line (r ∷ counted.0) it.0 page told.0) in (
+            course.requests,
+            course.answered,
+            counted.1,
+            λ unfailed.
+                let before = so.1 unfailed in
+                recorded_last s so.0.end so.0.front r counted.0 it.0 (g.R.Recorder.found c.args.recorder.now) (g.R.Recorder.found c.loop-request.recorder)
+                (g.R.Recorder.found c.stage_of-outcome.new.recorder) (g.R.Recorder.failed c.stage_of-outcome.new.recorder)
+                (replied_after keep line (page_under id) s so.0.front so_far.said so.0.end so.0.replied) before.1
+                (few_answered recorded mid closed next (λ t q. page_counted first_is) so.0.end r it.0 page met.0) (it.2 before.0),
+          );
     }
 
 pub returns-then-not-more-clause-keeps_connection : goal.returns-then-not-more-clause-keeps_connection
@@ -132,10 +178,15 @@ returns-clause-counted g c =
       cut = uncut;
       shown = told_all _ _ so_far.said 0 so_far.shown;
       is = λ clean is_open s at keep ward id are.
-          let so = so_far.is clean is_open s at keep ward id are in (
-            _,
-            _,
-            stages_all (state g.S.Store c.args.office.now.held) keep c.args.line s ward id c.args.requests.now c.loop-request.request-index so_far.said c.loop-request.office.closed
-                (state g.S.Store c.loop-request.office.held) c.loop-request-test.false so,
+          let so = so_far.is clean is_open s at keep ward id are in
+          let course = told_above so.0.front so_far.said nothing_more in (
+            course.requests,
+            course.answered,
+            stages_all (g.R.Recorder.records c.args.recorder.now) (state g.S.Store c.args.office.now.held) keep c.args.line s ward id c.args.requests.now c.loop-request.request-index so_far.said
+                c.loop-request.office.closed (state g.S.Store c.loop-request.office.held) c.loop-request-test.false so.0,
+            λ unfailed.
+                let before = so.1 unfailed in
+                recorded_end s so.0.end so.0.front (g.R.Recorder.found c.args.recorder.now) (g.R.Recorder.found c.loop-request.recorder) (g.R.Recorder.failed c.loop-request.recorder)
+                (replied_after keep c.args.line (page_under id) s so.0.front so_far.said so.0.end so.0.replied) before.0 before.1,
           );
     }

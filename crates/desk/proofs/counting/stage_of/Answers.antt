@@ -1,27 +1,97 @@
 -- Proof that `stage_of` meets its contract.
-use Rattle.std.proofs.Common.{◌∙◌, ap, inl, inr, refl}
+use Rattle.std.proofs.Common.{◌∙◌, ◌∷◌, [], ap, arith, inl, inr, refl, sym, true≢false}
 use Rattle.std.specs.Prelude.{Bool, ◌==◌, ◌&&◌, not}
-use Rattle.desk.specs.Pages.{page_counted}
+use Rattle.sqlite.specs.Held.{state}
+use Rattle.register.specs.Machine.{step_of}
+use Rattle.desk.specs.Pages.{failed, page_counted}
+use Rattle.desk.specs.declared.lines.Failure.TheVariants.{SecondRecord}
+use Rattle.desk.proofs.CourseLemmas.{plain_answer, unrecorded_answer}
+use Rattle.desk.proofs.RecordLemmas.{again_stays, done_accepted, none_recorded, one_recorded, one_unrecorded, refused_stays, still_recorded}
 use Rattle.desk.proofs.StageLemmas.{no_is_refused, tells_no}
 use Rattle.desk.proofs.counting.stage_of.Goals as goal
 
-pub returns-in-Ok-Done-clause-told : goal.returns-in-Ok-Done-clause-told
-returns-in-Ok-Done-clause-told g c = λ clean is_open s at.
+pub returns-then-has_failed-clause-told : goal.returns-then-has_failed-clause-told
+returns-then-has_failed-clause-told g c = λ clean is_open s at.
+    let st = state g.S.Store c.args.office.now.held in
+    let broken = sym c.has_failed.ensures.value ∙ c.if-has_failed.true in (
+      0,
+      (
+        unrecorded_answer (g.R.Recorder.records c.args.recorder.now) st c.args.office.now.closed st (λ t q. page_counted c.args.is_first) s c.args.request.now 0 (failed SecondRecord)
+            (c.has_failed.ensures.recorded broken) (refl, refl, inr (record { is_open = is_open; at = at })),
+        refl,
+      ),
+      λ fine. absurd (true≢false (sym broken ∙ fine)),
+    )
+
+pub returns-in-Ok-clause-told : goal.returns-in-Ok-clause-told
+returns-in-Ok-clause-told g c = λ clean is_open s at.
+    let r = c.args.request.now in
+    let handled = rw c.in-Ok-Done.field-0-is at (rw c.as_str.ensures.value at (c.in-Ok-Done.ensures.handled clean is_open s at)) in (
+      1,
+      (
+        plain_answer (g.R.Recorder.records c.args.recorder.now) (state g.S.Store c.args.office.now.held) c.handle.new.self.closed (state g.S.Store c.handle.new.self.held)
+            (λ t q. page_counted c.args.is_first) s r 1 _
+            (inl (refl, ap (page_counted c.args.is_first) handled.0, handled.1)),
+        ap (λ (b : Bool). 1 == 1 && not b) (ap tells_no handled.0 ∙ no_is_refused _),
+      ),
+      λ fine. one_recorded s r (g.R.Recorder.found c.args.recorder.now) (g.R.Recorder.found c.record.new.self) (g.R.Recorder.failed c.record.new.self) c.in-Ok.ensures.ok.1
+          (done_accepted (step_of s r) _ handled.0) (c.record.ensures.recorded fine),
+    )
+
+pub returns-in-Err-record-clause-told : goal.returns-in-Err-record-clause-told
+returns-in-Err-record-clause-told g c = λ clean is_open s at.
+    let r = c.args.request.now in
     let handled = rw c.in-Ok-Done.field-0-is at (rw c.as_str.ensures.value at (c.in-Ok-Done.ensures.handled clean is_open s at)) in
-    (1, inl (refl, ap (page_counted c.args.is_first) handled.0, handled.1), ap (λ (b : Bool). 1 == 1 && not b) (ap tells_no handled.0 ∙ no_is_refused _))
+    let took = done_accepted (step_of s r) _ handled.0 in (
+      0,
+      (
+        unrecorded_answer (g.R.Recorder.records c.args.recorder.now) (state g.S.Store c.args.office.now.held) c.handle.new.self.closed (state g.S.Store c.handle.new.self.held)
+            (λ t q. page_counted c.args.is_first) s r 0 (failed SecondRecord) c.in-Err-record.ensures.err.0 (refl, refl, inl (took, handled.1)),
+        refl,
+      ),
+      λ fine. one_unrecorded s r (g.R.Recorder.found c.args.recorder.now) (g.R.Recorder.found c.record.new.self) (g.R.Recorder.failed c.record.new.self) c.in-Err-record.ensures.err.1
+          took (c.record.ensures.recorded fine),
+    )
 
 pub returns-in-Ok-Kept-clause-told : goal.returns-in-Ok-Kept-clause-told
 returns-in-Ok-Kept-clause-told g c = λ clean is_open s at.
-    let handled = rw c.in-Ok-Kept.field-0-is at (rw c.as_str.ensures.value at (c.in-Ok-Kept.ensures.handled clean is_open s at)) in
-    (1, inl (refl, ap (page_counted c.args.is_first) handled.0, handled.1), ap (λ (b : Bool). 1 == 1 && not b) (ap tells_no handled.0 ∙ no_is_refused _))
+    let r = c.args.request.now in
+    let handled = rw c.in-Ok-Kept.field-0-is at (rw c.as_str.ensures.value at (c.in-Ok-Kept.ensures.handled clean is_open s at)) in (
+      1,
+      (
+        plain_answer (g.R.Recorder.records c.args.recorder.now) (state g.S.Store c.args.office.now.held) c.handle.new.self.closed (state g.S.Store c.handle.new.self.held)
+            (λ t q. page_counted c.args.is_first) s r 1 _
+            (inl (refl, ap (page_counted c.args.is_first) handled.0, handled.1)),
+        ap (λ (b : Bool). 1 == 1 && not b) (ap tells_no handled.0 ∙ no_is_refused _),
+      ),
+      λ fine. still_recorded s r 1 (g.R.Recorder.found c.args.recorder.now) (g.R.Recorder.failed c.args.recorder.now) (omega arith) fine (again_stays s (step_of s r) _ handled.0),
+    )
 
 pub returns-in-Ok-Refused-clause-told : goal.returns-in-Ok-Refused-clause-told
 returns-in-Ok-Refused-clause-told g c = λ clean is_open s at.
-    let handled = rw c.in-Ok-Refused.field-0-is at (rw c.as_str.ensures.value at (c.in-Ok-Refused.ensures.handled clean is_open s at)) in
-    (1, inl (refl, c.outcome_of_refused_stage.ensures ∙ ap (page_counted c.args.is_first) handled.0, handled.1), ap (λ (b : Bool). 1 == 1 && not b) (ap tells_no handled.0 ∙ no_is_refused _))
+    let r = c.args.request.now in
+    let handled = rw c.in-Ok-Refused.field-0-is at (rw c.as_str.ensures.value at (c.in-Ok-Refused.ensures.handled clean is_open s at)) in (
+      1,
+      (
+        plain_answer (g.R.Recorder.records c.args.recorder.now) (state g.S.Store c.args.office.now.held) c.handle.new.self.closed (state g.S.Store c.handle.new.self.held)
+            (λ t q. page_counted c.args.is_first) s r 1 _
+            (inl (refl, c.outcome_of_refused_stage.ensures ∙ ap (page_counted c.args.is_first) handled.0, handled.1)),
+        ap (λ (b : Bool). 1 == 1 && not b) (ap tells_no handled.0 ∙ no_is_refused _),
+      ),
+      λ fine. still_recorded s r 1 (g.R.Recorder.found c.args.recorder.now) (g.R.Recorder.failed c.args.recorder.now) (omega arith) fine (refused_stays s (step_of s r) _ handled.0),
+    )
 
 pub returns-in-Err-clause-told : goal.returns-in-Err-clause-told
 returns-in-Err-clause-told g c = λ clean is_open s at.
+    let r = c.args.request.now in
     let handled = rw c.as_str.ensures.value at (c.in-Err.ensures.handled clean is_open s at) in
-    let cause = rw c.as_str.ensures.value at (c.in-Err.ensures.cause clean is_open s at) in
-    (0, inr (refl, (c.in-Err.fault, refl, (cause, handled))), refl)
+    let cause = rw c.as_str.ensures.value at (c.in-Err.ensures.cause clean is_open s at) in (
+      0,
+      (
+        plain_answer (g.R.Recorder.records c.args.recorder.now) (state g.S.Store c.args.office.now.held) c.handle.new.self.closed (state g.S.Store c.handle.new.self.held)
+            (λ t q. page_counted c.args.is_first) s r 0 _
+            (inr (refl, (c.in-Err.fault, refl, (cause, handled)))),
+        refl,
+      ),
+      λ fine. none_recorded s (r ∷ []) (g.R.Recorder.found c.args.recorder.now) (g.R.Recorder.failed c.args.recorder.now) fine,
+    )

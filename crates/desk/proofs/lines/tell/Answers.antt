@@ -1,7 +1,7 @@
 -- Proof that `tell` meets its contract.
 use Rattle.std.proofs.Common.{refl, string_bytes}
 use Rattle.desk.specs.Pages.{failed, refused, unformed, unjournalled, unmended, unread, unsealed}
-use Rattle.desk.specs.declared.lines.Failure.TheVariants.{Office}
+use Rattle.desk.specs.declared.lines.Failure.TheVariants.{Office, SecondRecord}
 use Rattle.desk.proofs.PageLemmas.{front_shown, fronted_shown, printed_shown}
 use Rattle.desk.proofs.lines.tell.Goals as goal
 
@@ -37,6 +37,11 @@ pub returns-in-Failed : goal.returns-in-Failed
 returns-in-Failed g c =
     rw c.in-Failed.is (front_shown g.O.Sink.taken g.O.Sink.failed g.E.Sink.taken g.E.Sink.failed c.args.line _ _ _
     (failed (Office c.in-Failed.fault)) c.tell_failure_at.result _ _ refl refl c.tell_failure_at.ensures)
+
+pub returns-in-Unrecorded : goal.returns-in-Unrecorded
+returns-in-Unrecorded g c =
+    rw c.in-Unrecorded.is (front_shown g.O.Sink.taken g.O.Sink.failed g.E.Sink.taken g.E.Sink.failed c.args.line _ _ _
+    (failed SecondRecord) c.tell_failure_at-in-Unrecorded.result _ _ refl refl c.tell_failure_at-in-Unrecorded.ensures)
 
 pub returns-in-Unjournalled : goal.returns-in-Unjournalled
 returns-in-Unjournalled g c =

@@ -9,6 +9,7 @@ use Rattle.desk.specs.Parts.{IsOver}
 use Rattle.desk.specs.declared.lines.Failure.TheVariants.{Office}
 use Rattle.desk.proofs.CauseLemmas.{since}
 use Rattle.desk.proofs.CourseLemmas.{sent_turned, unsent_told}
+use Rattle.desk.proofs.RecordLemmas.{none_recorded}
 use Rattle.desk.proofs.order_running.run.Goals as goal
 
 pub returns-in-Send-clause-ran : goal.returns-in-Send-clause-ran
@@ -20,7 +21,7 @@ returns-in-Send-clause-ran g c =
       shown = told.shown;
       is = λ clean is_open s at.
           let it = told.is clean is_open s at in
-          (it.0, it.1, (_, c.opened-file.ensures, rw c.in-Send.is (inl (c.in-Send.request ∷ [], refl, rw c.from_ref-requests.ensures.value at it.2))));
+          (it.0, it.1, (_, c.opened-file.ensures, rw c.in-Send.is (inl (c.in-Send.request ∷ [], refl, rw c.from_ref-requests.ensures.value at it.2))), it.3);
     }
 
 pub returns-in-Ok-clause-ran : goal.returns-in-Ok-clause-ran
@@ -32,7 +33,7 @@ returns-in-Ok-clause-ran g c =
       shown = told.shown;
       is = λ clean is_open s at.
           let it = told.is clean is_open s at in
-          (it.0, it.1, (_, c.opened-file.ensures, rw c.in-ImportCandidates.is (inl (c.in-Ok.requests.items, c.in-Ok.ensures.rows, rw c.deref.ensures.value at it.2))));
+          (it.0, it.1, (_, c.opened-file.ensures, rw c.in-ImportCandidates.is (inl (c.in-Ok.requests.items, c.in-Ok.ensures.rows, rw c.deref.ensures.value at it.2))), it.3);
     }
 
 pub returns-in-ImportCandidates-clause-ran : goal.returns-in-ImportCandidates-clause-ran
@@ -54,6 +55,7 @@ returns-in-ImportCandidates-clause-ran g c =
               rw c.in-ImportCandidates.is (inr (unsent_told st c.args.office.now.closed st c.args.keep_going c.args.line _ s page told.0
                   (elim c.in-Err.ensures.refused [ inl why ↦ inl (why, here) | inr memory ↦ inr (Memory, memory, (inl refl, inl (record { memory = refl; open_at = here }))) ]))),
             ),
+            none_recorded s [] (g.R.Recorder.found c.args.recorder.now) (g.R.Recorder.failed c.args.recorder.now),
           );
     }
 
@@ -73,6 +75,7 @@ returns-in-Ok-batch_requests-clause-ran g c =
               c.opened-file.ensures,
               rw c.in-ImportBatches.is (inl (c.in-Ok-batch_requests.requests.items, c.in-Ok-batch_requests.ensures.rows, rw c.deref-in-Ok-batch_requests.ensures.value at it.2)),
             ),
+            it.3,
           );
     }
 
@@ -95,6 +98,7 @@ returns-in-ImportBatches-clause-ran g c =
               rw c.in-ImportBatches.is (inr (unsent_told st c.args.office.now.closed st c.args.keep_going c.args.line _ s page told.0
                   (elim c.in-Err-batch_requests.ensures.refused [ inl why ↦ inl (why, here) | inr memory ↦ inr (Memory, memory, (inl refl, inl (record { memory = refl; open_at = here }))) ]))),
             ),
+            none_recorded s [] (g.R.Recorder.found c.args.recorder.now) (g.R.Recorder.failed c.args.recorder.now),
           );
     }
 
@@ -114,9 +118,9 @@ returns-in-Ok-seal_of-clause-ran g c =
           let closed = c.send_all-in-Ok-seal_of.new.office.closed in
           let tells = since first mid next honest (reads_connection first mid c.seal_of.ensures.same) c.send_all-in-Ok-seal_of.ensures.keeps_connection in
           let it = told.is clean read.1.is_open s read.1.at in
-          let sent = sent_turned {Then = IsOver closed next} {Else = IsOver closed next} {Q = Unit {0}} first mid closed next c.args.keep_going c.args.line page_for tells
+          let sent = sent_turned {Then = IsOver closed next} {Else = IsOver closed next} {Q = Unit {0}} (g.R.Recorder.records c.args.recorder.now) first mid closed next c.args.keep_going c.args.line page_for tells
           (λ x e over gone. over) s (c.in-Ok-seal_of.request ∷ []) _ (λ gone. tt) it.2 in
-          (it.0, it.1, (_, c.opened-file.ensures, rw c.in-SealExpected.is (inl (c.in-Ok-seal_of.request ∷ [], read.0, sent))));
+          (it.0, it.1, (_, c.opened-file.ensures, rw c.in-SealExpected.is (inl (c.in-Ok-seal_of.request ∷ [], read.0, sent))), it.3);
     }
 
 pub returns-in-SealExpected-clause-ran : goal.returns-in-SealExpected-clause-ran
@@ -137,6 +141,7 @@ returns-in-SealExpected-clause-ran g c =
               (state g.S.Store c.seal_of.new.office.held) c.args.keep_going c.args.line _ s page told.0
               (c.in-Err-seal_of.ensures.read clean is_open s at))),
         ),
+        none_recorded s [] (g.R.Recorder.found c.args.recorder.now) (g.R.Recorder.failed c.args.recorder.now),
       );
     }
 
@@ -156,9 +161,9 @@ returns-in-Ok-keying_of-clause-ran g c =
           let closed = c.send_all-in-Ok-keying_of.new.office.closed in
           let tells = since first mid next honest (reads_connection first mid c.keying_of.ensures.same) c.send_all-in-Ok-keying_of.ensures.keeps_connection in
           let it = told.is clean read.1.is_open s read.1.at in
-          let sent = sent_turned {Then = IsOver closed next} {Else = IsOver closed next} {Q = Unit {0}} first mid closed next c.args.keep_going c.args.line page_for tells
+          let sent = sent_turned {Then = IsOver closed next} {Else = IsOver closed next} {Q = Unit {0}} (g.R.Recorder.records c.args.recorder.now) first mid closed next c.args.keep_going c.args.line page_for tells
           (λ x e over gone. over) s (c.in-Ok-keying_of.request ∷ []) _ (λ gone. tt) it.2 in
-          (it.0, it.1, (_, c.opened-file.ensures, rw c.in-ImportKeying.is (inl (c.in-Ok-keying_of.request ∷ [], read.0, sent))));
+          (it.0, it.1, (_, c.opened-file.ensures, rw c.in-ImportKeying.is (inl (c.in-Ok-keying_of.request ∷ [], read.0, sent))), it.3);
     }
 
 pub returns-in-ImportKeying-clause-ran : goal.returns-in-ImportKeying-clause-ran
@@ -179,6 +184,7 @@ returns-in-ImportKeying-clause-ran g c =
               (state g.S.Store c.keying_of.new.office.held) c.args.keep_going c.args.line _ s page told.0
               (c.in-Err-keying_of.ensures.read clean is_open s at))),
         ),
+        none_recorded s [] (g.R.Recorder.found c.args.recorder.now) (g.R.Recorder.failed c.args.recorder.now),
       );
     }
 
@@ -191,7 +197,7 @@ returns-in-Ok-advances-clause-ran g c =
       shown = told.shown;
       is = λ clean is_open s at.
           let it = told.is clean is_open s at c.args.keep_going c.in-Count.ward c.in-Count.id.now (rw c.deref-in-Ok-advances.ensures.value c.in-Ok-advances.ensures) in
-          (it.0, it.1, (_, c.opened-file.ensures, rw c.in-Count.is (inl it.2)));
+          (it.0, it.1, (_, c.opened-file.ensures, rw c.in-Count.is (inl it.2)), it.3);
     }
 
 pub returns-in-Count-clause-ran : goal.returns-in-Count-clause-ran
@@ -213,6 +219,7 @@ returns-in-Count-clause-ran g c =
               rw c.in-Count.is (inr (unsent_told st c.args.office.now.closed st c.args.keep_going c.args.line _ s page told.0
                   (inr (Memory, refl, (inl refl, inl (record { memory = refl; open_at = here })))))),
             ),
+            none_recorded s [] (g.R.Recorder.found c.args.recorder.now) (g.R.Recorder.failed c.args.recorder.now),
           );
     }
 
@@ -233,6 +240,7 @@ returns-in-PrintNext-clause-ran g c =
               (state g.S.Store c.next_of.new.office.held) c.args.keep_going c.args.line _ s (page_of c.next_of.result) told.0
               (c.next_of.ensures.found clean is_open s at))),
         ),
+        none_recorded s [] (g.R.Recorder.found c.args.recorder.now) (g.R.Recorder.failed c.args.recorder.now),
       );
     }
 
@@ -253,6 +261,7 @@ returns-in-PrintStatus-clause-ran g c =
               (state g.S.Store c.ward_status_of.new.office.held) c.args.keep_going c.args.line _ s (page_of c.ward_status_of.result) told.0
               (c.ward_status_of.ensures.found clean is_open s at))),
         ),
+        none_recorded s [] (g.R.Recorder.found c.args.recorder.now) (g.R.Recorder.failed c.args.recorder.now),
       );
     }
 
@@ -273,6 +282,7 @@ returns-in-Print-clause-ran g c =
               (state g.S.Store c.text_of.new.office.held) c.args.keep_going c.args.line _ s (page_of c.text_of.result) told.0
               (c.text_of.ensures.found clean is_open s at))),
         ),
+        none_recorded s [] (g.R.Recorder.found c.args.recorder.now) (g.R.Recorder.failed c.args.recorder.now),
       );
     }
 
@@ -293,6 +303,7 @@ returns-in-PrintIndex-clause-ran g c =
               (state g.S.Store c.index_of.new.office.held) c.args.keep_going c.args.line _ s (page_of c.index_of.result) told.0
               (c.index_of.ensures.found clean is_open s at))),
         ),
+        none_recorded s [] (g.R.Recorder.found c.args.recorder.now) (g.R.Recorder.failed c.args.recorder.now),
       );
     }
 
@@ -313,5 +324,6 @@ returns-clause-ran g c =
               (state g.S.Store c.answer_to.new.office.held) c.args.keep_going c.args.line _ s (page_of c.answer_to.result) told.0
               (c.answer_to.ensures.found clean is_open s at))),
         ),
+        none_recorded s [] (g.R.Recorder.found c.args.recorder.now) (g.R.Recorder.failed c.args.recorder.now),
       );
     }

@@ -1,12 +1,14 @@
 -- Proof that `send_all` meets its contract.
-use Rattle.std.proofs.Common.{◌≡◌, ◌∙◌, ◌<◌, ◌+◌, ◌∷◌, true, false, drop, take, length, ap, sym, arith}
+use Rattle.std.proofs.Common.{◌≡◌, ◌∙◌, ◌<◌, ◌+◌, ◌∷◌, [], true, false, drop, take, length, ap, refl, subst, sym, arith}
 use Rattle.sqlite.specs.Held.{state}
 use Rattle.store.proofs.KeepLemmas.{connection_itself, connection_then}
-use Rattle.desk.specs.Headline.{ended, told_above}
+use Rattle.desk.specs.Headline.{IsAnsweredBy, ended, told_above}
 use Rattle.desk.specs.Pages.{below, cut_below, uncut, empty_page, fronted, goes_on, page_of, page_for}
+use Rattle.desk.specs.Records.{IsRecordOf}
 use Rattle.desk.proofs.CauseLemmas.{since}
-use Rattle.desk.proofs.CourseLemmas.{answered_since, none_sent, nothing_more, sent_all, sent_last, sent_more}
+use Rattle.desk.proofs.CourseLemmas.{answered_since, few_answered, none_sent, nothing_more, replied_after, sent_all, sent_last, sent_more}
 use Rattle.desk.proofs.PageLemmas.{shown_last, whole_more}
+use Rattle.desk.proofs.RecordLemmas.{recorded_all, recorded_end, recorded_last}
 use Rattle.desk.proofs.TellingLemmas.{nothing_told, shown_goes, shown_stops, shown_whole, stops_by, told_all}
 use Rattle.desk.proofs.sending.send_all.Goals as goal
 
@@ -14,7 +16,8 @@ pub loop-request-init : goal.loop-request-init
 loop-request-init g c = record {
   keeps_connection = connection_itself (state g.S.Store c.args.office.now.held);
   clean = λ clean. clean;
-  so_far = record { said = _; shown = nothing_told _; is = λ clean is_open s at. none_sent _ _ _ s _ _ _ (record { is_open = is_open; at = at }) };
+  same = refl;
+  so_far = record { said = _; shown = nothing_told _; is = λ clean is_open s at. (none_sent _ _ _ s _ _ _ (record { is_open = is_open; at = at }), λ fine. (fine, λ was. was)) };
 }
 
 pub loop-request-preserved : goal.loop-request-preserved
@@ -35,16 +38,25 @@ loop-request-preserved g c =
     record {
       keeps_connection = connection_then first mid next c.outcome_of.ensures.clean c.loop-request.invariant.keeps_connection c.outcome_of.ensures.keeps_connection;
       clean = λ clean. c.loop-request.invariant.clean (c.outcome_of.ensures.clean clean);
+      same = c.outcome_of.ensures.same ∙ c.loop-request.invariant.same;
       so_far = record {
         said = below so_far.said (fronted line page);
         shown = rw c.combined_status-ends.ensures (whole_more _ _ _ so_far.said (fronted line page) c.loop-request.ends c.tell-status.result so_far.shown
             (shown_whole keep told.0 _ _ (fronted line page) c.tell-status.result told.1 goes));
         is = λ clean is_open s at.
             let so = so_far.is (c.outcome_of.ensures.clean clean) is_open s at in
-            let it = c.outcome_of.ensures.told clean so.open_at.is_open so.end so.open_at.at in
-            sent_more first keep line page_for s rs mid i c.request-item.result so_far.said c.loop-request.office.closed mid page it.0 c.outcome_of.new.office.closed
-            next within c.request-item.is so it.1
-            (ap (goes_on keep) fine.1 ∙ goes);
+            let it = c.outcome_of.ensures.told clean so.0.open_at.is_open so.0.end so.0.open_at.at in
+            let more = sent_more (g.R.Recorder.records c.loop-request.recorder) first keep line page_for s rs mid i c.request-item.result so_far.said c.loop-request.office.closed mid page it.0
+            c.outcome_of.new.office.closed next within c.request-item.is so.0 it.1
+            (ap (goes_on keep) fine.1 ∙ goes) in
+            let found = g.R.Recorder.found c.outcome_of.new.recorder in (
+              more.0,
+              λ unfailed.
+                  let before = so.1 unfailed in
+                  let kept = it.2 before.0 in
+                  (kept.unfailed more.2, λ was. subst (IsRecordOf found) (sym more.1) (recorded_all so.0.end (c.request-item.result ∷ []) it.0 (g.R.Recorder.found c.loop-request.recorder) found
+                  (g.R.Recorder.failed c.outcome_of.new.recorder) more.2 kept (before.1 was))),
+            );
       };
     }
 
@@ -72,13 +84,21 @@ returns-then-not-goes_on-clause-sent g c =
           let honest = c.outcome_of.ensures.clean clean in
           let so = so_far.is honest is_open s at in
           let tells = since first mid next honest c.loop-request.invariant.keeps_connection c.outcome_of.ensures.keeps_connection in
-          let it = c.outcome_of.ensures.told clean so.open_at.is_open so.end so.open_at.at in
-          let here = answered_since first mid closed next page_for so.end r it.0 page tells it.1 in
+          let it = c.outcome_of.ensures.told clean so.0.open_at.is_open so.0.end so.0.open_at.at in
+          let recorded = g.R.Recorder.records c.args.recorder.now in
+          let met = subst (λ b. IsAnsweredBy mid closed next b page_for so.0.end r it.0 page) c.loop-request.invariant.same it.1 in
+          let here = answered_since recorded first mid closed next page_for so.0.end r it.0 page tells met in
           let course = told_above (take i rs) so_far.said (ended line (r ∷ drop (i + 1) rs) it.0 page told.0) in (
             course.requests,
             course.answered,
-            sent_last first keep line page_for s rs i r so_far.said c.loop-request.office.closed mid page told.0 it.0 closed next within c.request-item.is so here
+            sent_last recorded first keep line page_for s rs i r so_far.said c.loop-request.office.closed mid page told.0 it.0 closed next within c.request-item.is so.0 here
                 (shown_stops keep told.0 _ _ (fronted line page) c.tell-status.result told.1 stops),
+            λ unfailed.
+                let before = so.1 unfailed in
+                recorded_last s so.0.end (take i rs) r (drop (i + 1) rs) it.0 (g.R.Recorder.found c.args.recorder.now) (g.R.Recorder.found c.loop-request.recorder)
+                (g.R.Recorder.found c.outcome_of.new.recorder) (g.R.Recorder.failed c.outcome_of.new.recorder)
+                (replied_after keep line page_for s (take i rs) so_far.said so.0.end so.0.replied) before.1
+                (few_answered recorded mid closed next page_for so.0.end r it.0 page met) (it.2 before.0),
           );
     }
 
@@ -101,7 +121,11 @@ returns-clause-sent g c =
           let course = told_above (take i rs) so_far.said nothing_more in (
             course.requests,
             course.answered,
-            sent_all (state g.S.Store c.args.office.now.held) c.args.keep_going c.args.line page_for s rs i so_far.said c.loop-request.office.closed
-                (state g.S.Store c.loop-request.office.held) c.loop-request-test.false so,
+            sent_all (g.R.Recorder.records c.args.recorder.now) (state g.S.Store c.args.office.now.held) c.args.keep_going c.args.line page_for s rs i so_far.said c.loop-request.office.closed
+                (state g.S.Store c.loop-request.office.held) c.loop-request-test.false so.0,
+            λ unfailed.
+                let before = so.1 unfailed in
+                recorded_end s so.0.end (take i rs) (g.R.Recorder.found c.args.recorder.now) (g.R.Recorder.found c.loop-request.recorder) (g.R.Recorder.failed c.loop-request.recorder)
+                (replied_after c.args.keep_going c.args.line page_for s (take i rs) so_far.said so.0.end so.0.replied) before.0 before.1,
           );
     }

@@ -1,0 +1,20 @@
+-- Proof that `difference` meets its contract.
+use Rattle.std.proofs.Common.{arith, refl, sym}
+use Rattle.std.proofs.lemmas.List.{length-map}
+use Rattle.register.specs.Offices.{receipt_entry}
+use Rattle.rowcheck.specs.States.{state_of}
+use Rattle.desk.specs.Pages.{page_of}
+use Rattle.desk.proofs.SecondLemmas.{none_fewer, told_apart, told_unjournalled}
+use Rattle.desk.proofs.second_record.difference.Goals as goal
+
+-- the office has more requests, and the journal has no other one
+pub returns-in-Ok-None : goal.returns-in-Ok-None
+returns-in-Ok-None g c clean blank =
+    let s = state_of c.args.rows.now in
+    let here = sym (length-map c.args.rows.now.receipts.items receipt_entry) in
+    told_apart s c.args.path.now c.args.requests.items (page_of c.apart.result) _ _ refl here c.apart.ensures
+    (none_fewer s c.args.path.now c.args.requests.items (page_of c.apart.result) _ _ refl here (omega arith))
+
+-- there is no journal, or an allocation failed
+pub returns-in-Err : goal.returns-in-Err
+returns-in-Err g c clean blank = told_unjournalled (state_of c.args.rows.now) c.args.path.now c.args.requests.items (page_of c.in-Err.outcome) c.in-Err.ensures.none
