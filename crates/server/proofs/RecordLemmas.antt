@@ -78,7 +78,7 @@ module _ (recorded : Bool) (old : State) (closed : Bool) (st : State) where
   open_begun true keep folder s turns c begun = open_unsent false None (λ page. page ≡ cut_note) s c (λ e more. open_played keep folder s turns e more) begun
 
   pub open_done_by : (folder : Folder) (s : OfficeState) (job : Job) (c : Course) → IsDoneBy recorded old closed st folder s job c → IsOpenBy s c
-  open_done_by folder s job c (inl (left_out, turns, are, begun)) = open_begun left_out (keeps_going job) folder s turns c begun
+  open_done_by folder s job c (inl (turns, left_out, are, begun)) = open_begun left_out (keeps_going job) folder s turns c begun
   open_done_by folder s job c (inr unsent) = open_unsent false None _ s c (λ e never. absurd never) unsent
 
 -- ---- a job that was done with a record that failed only if there is one
@@ -121,5 +121,5 @@ module _ (failed recorded : Bool) (fails : failed ≡ true → recorded ≡ true
   begun_recorded true keep folder s turns c begun = unsent_recorded false None (λ page. page ≡ cut_note) s c (λ e more. played_recorded keep folder s turns e more) begun
 
   pub done_recorded : (folder : Folder) (s : OfficeState) (job : Job) (c : Course) → IsDoneBy failed old closed st folder s job c → IsDoneBy recorded old closed st folder s job c
-  done_recorded folder s job c (inl (left_out, turns, are, begun)) = inl (left_out, turns, are, begun_recorded left_out (keeps_going job) folder s turns c begun)
+  done_recorded folder s job c (inl (turns, left_out, are, begun)) = inl (turns, left_out, are, begun_recorded left_out (keeps_going job) folder s turns c begun)
   done_recorded folder s job c (inr unsent) = inr unsent
