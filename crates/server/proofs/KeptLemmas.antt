@@ -347,12 +347,13 @@ nothing_last settings bytes asked last asks still (inr (clerk, batch, entry, req
     absurd (subst ChangesNothing (AsksOneThing-all settings bytes asked (keying clerk batch entry) asks so) still)
 
 -- no request, so no state but the one before
+none_taken : (n : ℕ) (rs : List Request) → rs ≡ [] → take n rs ≡ rs
+none_taken zero [] is = refl
+none_taken (suc n) [] is = refl
+none_taken n (r ∷ rs) is = absurd (cc is)
+
 after_none : (s x : OfficeState) → IsAfterSome s [] 0 x → x ≡ s
-after_none s x (k, low, high, within, is) = is ∙ ap (after s) (take_none k)
-  where
-    take_none : (n : ℕ) → take n [] ≡ []
-    take_none zero = refl
-    take_none (suc n) = refl
+after_none s x (k, low, high, within, is) = is ∙ ap (after s) (none_taken k [] refl)
 
 module _ {S R : Type 0} (settings : ServerSettingsEntry) (view : ServedView S R) where
   -- a client that must wait leaves everything unchanged
