@@ -153,7 +153,6 @@ module _ (settings : ServerSettingsEntry) where
         let it = client_stop view exchange free (subst (λ (listener : Listener). IsStoppedBySeen listener state_of settings clerk view exchange) client stopped) in
         subst (AnswersOwn view) (sym is) (inr (inl it))
     own_seen view (exchange ∷ exchanges) own (inr (inl (stopped, away))) (client, free, clients) (inr (not, others)) = away_own view exchanges own away clients others
-
     own_seen view (exchange ∷ exchanges) own (inr (inr (recorded, (next, unacknowledged, rest)))) (client, free, clients) (inl (under, (later, is, others))) =
         let it = client_unrecorded view next exchange free
         (subst (λ (listener : Listener). IsUnacknowledgedBySeen listener state_of settings clerk view exchange next) client unacknowledged) in

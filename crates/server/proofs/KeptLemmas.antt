@@ -35,7 +35,7 @@ use Rattle.desk.specs.Pages.{Cut, Page}
 use Rattle.desk.proofs.KeptLemmas.{Kept, kept_done_by}
 use Rattle.desk.proofs.OpenLemmas.{after_next}
 use Rattle.desk.specs.Records.{IsAfterAnswered, IsRecordOf, IsRecorded, LeavesRecord, Records}
-use Rattle.server.proofs.RecordLemmas.{done_recorded, open_done_by}
+use Rattle.desk.proofs.RecordedEnds.{done_recorded, open_done_by}
 use Rattle.server.specs.RecordChanges.{RecordChange, ServedView, change_in, change_of}
 use Rattle.server.specs.ServedOrders.{BeginsUnfailed, IsOrderOutcome, IsFramed, OrderPrints, PrintsAt, folder_of}
 use Rattle.server.specs.ConsoleOrders.{FollowsConsole, IsInResponse, ConsolePrints}

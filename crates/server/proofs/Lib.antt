@@ -4,7 +4,6 @@ pub mod FrameSinkLemmas
 pub mod ReadLemmas
 pub mod OrderLemmas
 mod DestinationLemmas
-pub mod RecordLemmas
 pub mod KeptLemmas
 pub mod AnswerLemmas
 pub mod ConsoleLemmas

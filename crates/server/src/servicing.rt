@@ -37,8 +37,8 @@ use sqlite::Alter;
 use std::alloc::Global;
 use streams::Broken;
 use wire::{
-    Completeness, HandledKeying, HttpRequest, HttpSettings, Keying, MAX_HEAD_BYTES, Parsed, Resource,
-    Response, Routes, Served, handle_keying, parse, respond, write_gone_response,
+    Completeness, HandledKeying, HttpRequest, HttpSettings, Keying, MAX_HEAD_BYTES, Parsed,
+    Resource, Response, Routes, Served, handle_keying, parse, respond, write_gone_response,
     write_no_memory_response, write_response, write_unrecorded_response, write_wait_response,
 };
 

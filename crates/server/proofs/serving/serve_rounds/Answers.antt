@@ -76,9 +76,9 @@ loop-round-preserved g c =
           (served_office c.args.office.now (memory_entry c.args.kept.now)) behind
           (serves_then settings stream (served_view (state g.S.Store) g.R.Recorder.found g.R.Recorder.failed) (known c.args.network.now) (known c.loop-round.network) (known went.new.network) c.args.table.now c.loop-round.table went.new.table
           (served_office c.args.office.now (memory_entry c.args.kept.now)) (served_office c.loop-round.office (memory_entry c.loop-round.kept)) behind so_far.goes_on (subst (λ (b : Bool). ServesFrom (settings_by g.A.ServedFile.whole b c.args.serving.server_settings)
-    (stream_of g.D.Stream.Stream.held g.D.Stream.Stream.taken g.D.Stream.Stream.failed) (served_view (state g.S.Store) g.R.Recorder.found g.R.Recorder.failed)
-    (known c.loop-round.network) (known went.new.network) c.loop-round.table went.new.table (served_office c.loop-round.office (memory_entry c.loop-round.kept))
-    (served_office went.new.office (memory_entry went.new.kept))) c.loop-round.invariant.records_same went.ensures.goes_on))
+          (stream_of g.D.Stream.Stream.held g.D.Stream.Stream.taken g.D.Stream.Stream.failed) (served_view (state g.S.Store) g.R.Recorder.found g.R.Recorder.failed)
+          (known c.loop-round.network) (known went.new.network) c.loop-round.table went.new.table (served_office c.loop-round.office (memory_entry c.loop-round.kept))
+          (served_office went.new.office (memory_entry went.new.kept))) c.loop-round.invariant.records_same went.ensures.goes_on))
           (ended.ensures.goes_on settings) (ended.ensures.trace (is_some settings.clients.gate));
       few = λ few. ended.ensures.few (omega (arith, so_far.few few, went.ensures.counted));
       within = c.in-Ok-false.ensures.within;

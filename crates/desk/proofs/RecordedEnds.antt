@@ -1,4 +1,4 @@
--- The state in which a job leaves an office that has a second record.
+-- The state in which a job leaves an office that has a second record, and the outcome of the job if the record failed.
 use Rattle.std.proofs.Common.{◌≡◌, ◌+◌, ◌∙◌, ◌⊎◌, inl, inr, ℕ, Bool, false, true, List, [], ◌∷◌, Option, None, add-one, arith, subst, sym, take, true≢false}
 use Rattle.sqlite.specs.State.{State}
 use Rattle.register.specs.Offices.{OfficeState}
@@ -11,6 +11,7 @@ use Rattle.desk.specs.Pages.{Cut, Page, cut_note, fronted}
 use Rattle.desk.specs.Scripts.{keeps_going}
 use Rattle.desk.specs.Told.{IsTold, page_answered}
 use Rattle.desk.specs.declared.orders.Job.{Job}
+use Rattle.desk.specs.declared.scripts.ScriptStep.{ScriptStep}
 use Rattle.desk.proofs.CourseLemmas.{plain_answer, split_answer, unrecorded_answer}
 
 -- ---- an office that is still open
@@ -66,14 +67,14 @@ module _ (recorded : Bool) (old : State) (closed : Bool) (st : State) where
   open_unsent keep line Tells s c so (inr (page, cut, is, ends, inl told)) = subst (IsOpenBy s) (sym is) (λ was. inl told.1)
   open_unsent keep line Tells s c so (inr (page, cut, is, ends, inr stopped)) = subst (IsOpenBy s) (sym is) (λ was. inl (open_stopped s page stopped was))
 
-  open_played : (keep : Bool) (folder : Folder) (s : OfficeState) (turns : List _) (c : Course) → IsPlayedBy recorded old closed st keep folder s turns c → IsOpenBy s c
+  open_played : (keep : Bool) (folder : Folder) (s : OfficeState) (turns : List ScriptStep) (c : Course) → IsPlayedBy recorded old closed st keep folder s turns c → IsOpenBy s c
   open_played keep folder s [] c played = subst (IsOpenBy s) (sym played.0) (λ was. inl played.1)
   open_played keep folder s (turn ∷ turns) c (file, found, inl (own, sends, sent)) =
       open_sent keep turn.line (page_answered turn.errand) (λ x e more. open_played keep folder x turns e more) s own c sent
   open_played keep folder s (turn ∷ turns) c (file, found, inr unsent) =
       open_unsent keep turn.line (IsTold s turn.errand file) s c (λ e more. open_played keep folder s turns e more) unsent
 
-  open_begun : (left_out keep : Bool) (folder : Folder) (s : OfficeState) (turns : List _) (c : Course) → IsBegunBy recorded old closed st left_out keep folder s turns c → IsOpenBy s c
+  open_begun : (left_out keep : Bool) (folder : Folder) (s : OfficeState) (turns : List ScriptStep) (c : Course) → IsBegunBy recorded old closed st left_out keep folder s turns c → IsOpenBy s c
   open_begun false keep folder s turns c begun = open_played keep folder s turns c begun
   open_begun true keep folder s turns c begun = open_unsent false None (λ page. page ≡ cut_note) s c (λ e more. open_played keep folder s turns e more) begun
 
@@ -104,7 +105,7 @@ module _ (failed recorded : Bool) (fails : failed ≡ true → recorded ≡ true
   unsent_recorded keep line Tells s c so (inl (page, rest, told, goes, is, later)) = inl (page, rest, told, goes, is, so rest later)
   unsent_recorded keep line Tells s c so (inr it) = inr it
 
-  played_recorded : (keep : Bool) (folder : Folder) (s : OfficeState) (turns : List _) (c : Course) → IsPlayedBy failed old closed st keep folder s turns c
+  played_recorded : (keep : Bool) (folder : Folder) (s : OfficeState) (turns : List ScriptStep) (c : Course) → IsPlayedBy failed old closed st keep folder s turns c
       → IsPlayedBy recorded old closed st keep folder s turns c
   played_recorded keep folder s [] c played = played
   played_recorded keep folder s (turn ∷ turns) c (file, found, inl (own, sends, sent)) = (
@@ -115,7 +116,7 @@ module _ (failed recorded : Bool) (fails : failed ≡ true → recorded ≡ true
   played_recorded keep folder s (turn ∷ turns) c (file, found, inr unsent) =
       (file, found, inr (unsent_recorded keep turn.line (IsTold s turn.errand file) s c (λ e more. played_recorded keep folder s turns e more) unsent))
 
-  begun_recorded : (left_out keep : Bool) (folder : Folder) (s : OfficeState) (turns : List _) (c : Course) → IsBegunBy failed old closed st left_out keep folder s turns c
+  begun_recorded : (left_out keep : Bool) (folder : Folder) (s : OfficeState) (turns : List ScriptStep) (c : Course) → IsBegunBy failed old closed st left_out keep folder s turns c
       → IsBegunBy recorded old closed st left_out keep folder s turns c
   begun_recorded false keep folder s turns c begun = played_recorded keep folder s turns c begun
   begun_recorded true keep folder s turns c begun = unsent_recorded false None (λ page. page ≡ cut_note) s c (λ e more. played_recorded keep folder s turns e more) begun
