@@ -46,9 +46,16 @@ returns-in-Ok g c =
             in_office = λ db rests s left.
                 let here = c.in-Ok.ensures.reopens opened db rests s left in
                 let it = told.is ended here.is_open s here.at in
-                performed_recorded pair folder s (InOffice job) told.cut _ _ told.page status first next told.shown
-                (it.0, it.1, inl (closed, done_since recorded first mid closed next folder tells s job _ (done_recorded (g.R.Recorder.failed c.follow_recorded-status.new.recorder) recorded fails mid closed
-                next folder s job _ it.2)), it.3);
+                performed_recorded pair folder s (InOffice job) told.cut _ _ told.page status first next told.shown (
+                  it.0,
+                  it.1,
+                  inl (
+                    closed,
+                    done_since recorded first mid closed next folder tells s job _ (done_recorded (g.R.Recorder.failed c.follow_recorded-status.new.recorder) recorded fails mid closed
+                        next folder s job _ it.2),
+                  ),
+                  it.3,
+                );
             elsewhere = λ db ours rests none. let held = c.in-Ok.ensures.opened opened db ours rests in absurd (none held.0 held.1);
           });
     }
