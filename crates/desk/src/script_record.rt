@@ -60,6 +60,7 @@ pub enum RecordFault {
 ///
 /// The file must be complete when the record begins: all its bytes flushed, its last line ended, and its lines a journal of the
 /// office. The record then stays so until it fails. Once it has failed, nothing more is appended.
+#[derive(Drop)]
 pub struct ScriptRecord<W> {
     alloc: Global,
     file: W,
@@ -86,6 +87,19 @@ impl<W: DurableSink> ScriptRecord<W> {
         ensures { result ≡ fault_of self.now }
     {
         self.fault
+    }
+
+    /// Returns the record's file.
+    pub fn into_file(self) -> W
+        ensures { result ≡ file_of self }
+    {
+        let ScriptRecord {
+            alloc: _,
+            file,
+            comment: _,
+            fault: _,
+        } = self;
+        file
     }
 
     /// Sets the comment that is written above the line of the next request, such as its time and its sender. A comment that doesn't

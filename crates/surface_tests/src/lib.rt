@@ -17,6 +17,8 @@ mod machines;
 #[cfg(test)]
 mod offices;
 #[cfg(test)]
+mod records;
+#[cfg(test)]
 mod rows;
 #[cfg(test)]
 mod stores;
