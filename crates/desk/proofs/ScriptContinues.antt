@@ -111,6 +111,7 @@ none_in_front k t none = by (list_any (λ byte. byte == 10) (take k t)) refl
   where
     both : (list_any (λ byte. byte == 10) (take k t) || list_any (λ byte. byte == 10) (drop k t)) ≡ false
     both = sym (list_any-append (λ byte. byte == 10) (take k t) (drop k t)) ∙ ap (list_any (λ byte. byte == 10)) (take-append-drop k t) ∙ none
+
     by : (e : Bool) → list_any (λ byte. byte == 10) (take k t) ≡ e → list_any (λ byte. byte == 10) (take k t) ≡ false
     by true e = absurd (let bad : true ≡ false = rw e at both in cc bad)
     by false e = e
@@ -151,9 +152,11 @@ MeanAlso lines turns = (others : List ScriptStep) × AreTurns (map typed_line li
 -- one more line, with the given number
 mean_more : (m : ℕ) (words : Option (List Text)) (lines : List Numbered) (turn : ScriptStep) (turns later : List ScriptStep) → turns ≡ turn ∷ later
     → IsOkAnd (typed words) (λ ws. Means ws turn.errand) → MeanAlso lines later → MeanAlso (record { number = m; words = words } ∷ lines) turns
-mean_more m words lines turn turns later is means (others, are, same) =
-    (record { line = Some m; errand = turn.errand } ∷ others, (record { line = Some m; errand = turn.errand }, others, refl, record { line_number = refl; means = means }, are),
-    ap (λ (es : List Errand). turn.errand ∷ es) same ∙ sym (ap (map (λ (t : ScriptStep). t.errand)) is))
+mean_more m words lines turn turns later is means (others, are, same) = (
+  record { line = Some m; errand = turn.errand } ∷ others,
+  (record { line = Some m; errand = turn.errand }, others, refl, record { line_number = refl; means = means }, are),
+  ap (λ (es : List Errand). turn.errand ∷ es) same ∙ sym (ap (map (λ (t : ScriptStep). t.errand)) is),
+)
 
 renumbered : (k m : ℕ) (lines : List Text) (turns : List ScriptStep) → AreTurns (map typed_line (numbered_from k lines)) turns → MeanAlso (numbered_from m lines) turns
 renumbered k m [] turns are = ([], refl, sym (ap (map (λ (t : ScriptStep). t.errand)) are))
@@ -203,6 +206,7 @@ script_continues text line requests more whole one script also =
     nothing none =
         let empty : script.turns ≡ [] = subst (λ (t : Text). AreTurns (script_lines t) script.turns) none script.script in
         rw (none, no_requests script.turns requests empty script.sends) also
+
     something : (front : Text) → text ≡ front ++ 10 ∷ [] → IsScriptOf (text ++ line) (requests ++ more)
     something front is =
         let lines = lines_of front in
