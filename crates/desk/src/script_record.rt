@@ -33,6 +33,7 @@ pub trait DurableSink {
         ensures cause { OnErr result (broken self.new) };
 }
 
+#[tactic(auto, using(crate::proofs::ScriptRecordLemmas::flush_failed))]
 /// Appends bytes to a file and flushes them. After `Broken`, a beginning of them was appended, and nothing was flushed.
 fn put_durably<W: DurableSink>(file: &mut W, bytes: &[u8]) -> Result<(), Broken>
     ensures all { OnOk result (PutsAll (W.kept file.old) (W.kept file.new) bytes.now) }
