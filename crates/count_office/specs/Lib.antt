@@ -6,3 +6,4 @@ pub mod NewCodes
 pub mod Serving
 pub mod CopyPaths
 pub mod Remarks
+pub mod SecondWords

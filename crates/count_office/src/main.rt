@@ -16,9 +16,8 @@
 //! ```
 #![tactic(auto)]
 
-ghost use Rattle.std.specs.Prelude.{◌≡◌, ◌+◌, ◌-◌, ◌^◌, ◌<◌, IfSome, None, Some};
+ghost use Rattle.std.specs.Prelude.{◌≡◌, ◌+◌, ◌-◌, ◌^◌, ◌<◌, ℕ, List, IfSome, None, Some};
 ghost use Rattle.std.specs.Borrow.{Bor};
-ghost use Rattle.clap.specs.Words.{Text};
 ghost use Rattle.sqlite.specs.Effect.{Database};
 ghost use Rattle.sqlite.specs.Held.{state};
 ghost use Rattle.sqlite.specs.State.{HasCleanDisk};
@@ -32,7 +31,7 @@ ghost use Rattle.desk.specs.declared.orders.MendOrder.{MendOrder};
 ghost use Rattle.desk.specs.Pages.{IsErrorTold, Tells, outputs_of};
 ghost use Rattle.desk.specs.Seconds.{IsSecondPage};
 ghost use Rattle.connections.specs.Streams.{stream_of};
-ghost use Rattle.count_office.specs.Done.{IsDone};
+ghost use Rattle.count_office.specs.Done.{IsDoneWith};
 ghost use Rattle.count_office.specs.Serving.{ServesOrder};
 ghost use Rattle.sqlite_wal.specs.Reads.{AreClean};
 ghost use Rattle.sqlite.specs.Closing.{IsCopied};
@@ -62,6 +61,9 @@ mod mends;
 mod new_file;
 mod served_file;
 // an office and a second record of it
+mod second_file;
+mod second_order;
+mod second_words;
 mod seconds;
 // the two outputs
 mod screen;
@@ -84,6 +86,8 @@ use order_run::OrderRun;
 use path_state::PathState;
 use remarks::perform_and_remark;
 use screen::Screen;
+use second_order::{RecordedTask, perform_with_record};
+use second_words::{SplitWords, split_words};
 use seconds::second;
 use serving::{Serving, serve};
 use sqlite::{Alter, Connection, ErrorCode, FileStore, Files};
@@ -97,7 +101,8 @@ use store::Fault;
 use streams::{Counted, Sink};
 
 /// A locked database: its path as given, what exists there, and its file; and those of the order's files that have already been
-/// read, if any. Also whether it is that of a new office, which takes the place of one that was served, and what is left of that.
+/// read, if any; and the path of a second record, if one was given. Also whether it is that of a new office, which takes the place of one
+/// that was served, and what is left of that.
 #[derive(Clone, Copy)]
 pub struct LockedDatabase<'a> {
     pub rt: &'a HostRuntime,
@@ -105,6 +110,7 @@ pub struct LockedDatabase<'a> {
     pub found: &'a PathState,
     pub lock: &'a FileLock,
     pub brought: &'a Option<OrderFiles>,
+    pub second: Option<&'a str>,
     pub is_successor: bool,
     pub succession: &'a Succession,
 }
@@ -134,9 +140,9 @@ fn wants_progress(rt: &HostRuntime, task: &Task<'_>) -> bool {
     task.file().is_some() && rt.stderr().is_terminal() && !rt.stdout().is_terminal()
 }
 
-/// Performs a task on an open connection to the office, using the files that the task names.
-fn perform_with_progress<S: Alter, O: Sink, E: Sink>(
-    paths: LocalFolder<'_>,
+/// Performs a task on an open connection to the office, using the files that the task names, and the second record if there is one.
+fn perform_task<S: Alter, O: Sink, E: Sink>(
+    place: LockedDatabase<'_>,
     task: &Task<'_>,
     conn: Connection<S>,
     out: &mut O,
@@ -144,14 +150,43 @@ fn perform_with_progress<S: Alter, O: Sink, E: Sink>(
 ) -> (u8, Connection<S>)
     requires out { O.failed out.old < 2 ^ 64 - 1 }
     requires err { E.failed err.old < 2 ^ 64 - 1 }
-    ensures { IsDone task.now result.0 (state S.Store conn) (state S.Store result.1) }
+    ensures { IsDoneWith place.entry.second (state S.Store) task.now result.0 conn result.1 }
 {
-    let rt = paths.rt;
+    let paths = LocalFolder {
+        rt: place.rt,
+        brought: place.brought,
+    };
+    match place.second {
+        Some(second) => {
+            let asked = RecordedTask {
+                paths,
+                task,
+                second,
+            };
+            perform_with_record(asked, conn, out, err)
+        }
+        None => perform(place.rt.alloc(), task, conn, &paths, out, err),
+    }
+}
+
+/// Performs a task as above, with progress if a person is watching.
+fn perform_with_progress<S: Alter, O: Sink, E: Sink>(
+    place: LockedDatabase<'_>,
+    task: &Task<'_>,
+    conn: Connection<S>,
+    out: &mut O,
+    err: &mut E,
+) -> (u8, Connection<S>)
+    requires out { O.failed out.old < 2 ^ 64 - 1 }
+    requires err { E.failed err.old < 2 ^ 64 - 1 }
+    ensures { IsDoneWith place.entry.second (state S.Store) task.now result.0 conn result.1 }
+{
+    let rt = place.rt;
     if wants_progress(rt, task) {
         let mut watched = ProgressSink::new(out, rt.stderr());
-        return perform(rt.alloc(), task, conn, &paths, &mut watched, err);
+        return perform_task(place, task, conn, &mut watched, err);
     }
-    perform(rt.alloc(), task, conn, &paths, out, err)
+    perform_task(place, task, conn, out, err)
 }
 
 /// Performs an order on an open connection to the office in a locked database. An order to serve is performed on the host.
@@ -165,14 +200,14 @@ fn dispatch_order<H: Host, S: Alter, O: Sink, E: Sink>(
 ) -> (u8, Connection<S>)
     requires out { O.failed out.old < 2 ^ 64 - 1 }
     requires err { E.failed err.old < 2 ^ 64 - 1 }
-    ensures performs { (task : Task) → order.now ≡ Order.Perform task → IsDone task result.0 (state S.Store conn) (state S.Store result.1) }
+    ensures performs { (task : Task) → order.now ≡ Order.Perform task → IsDoneWith place.entry.second (state S.Store) task result.0 conn result.1 }
     ensures journals { order.now ≡ Order.Journal → (let outputs = outputs_of O.taken O.failed E.taken E.failed in Tells (outputs out.old err.old) (outputs out.new err.new) result.0
         (λ _ page. HasCleanDisk (state S.Store result.1) → ((db : Database) → RestsAt db (state S.Store conn) → (s : OfficeState) → IsLeftAt s db → IsJournalTold s page)
         × IsToldElsewhere page (state S.Store conn) (state S.Store result.1))) }
     ensures mends { (asked : MendOrder) → order.now ≡ Order.Mend asked → (let outputs = outputs_of O.taken O.failed E.taken E.failed in
         Tells (outputs out.old err.old) (outputs out.new err.new) result.0 (λ _ page. HasCleanDisk (state S.Store result.1) → (db : Database) → RestsAt db (state S.Store conn)
         → (s : OfficeState) → IsLeftAt s db → IsMendPage s asked page)) }
-    ensures seconds { (path : Bor Text) → order.now ≡ Order.Second path → (let outputs = outputs_of O.taken O.failed E.taken E.failed in
+    ensures seconds { (path : Bor (List ℕ)) → order.now ≡ Order.Second path → (let outputs = outputs_of O.taken O.failed E.taken E.failed in
         Tells (outputs out.old err.old) (outputs out.new err.new) result.0 (λ _ page. HasCleanDisk (state S.Store result.1) → (db : Database) → RestsAt db (state S.Store conn)
         → (s : OfficeState) → IsLeftAt s db → IsSecondPage s path.now page)) }
     ensures serves { (serving : Serving) → order.now ≡ Order.Serve serving.port serving.connections serving.origin serving.codes serving.public
@@ -181,13 +216,7 @@ fn dispatch_order<H: Host, S: Alter, O: Sink, E: Sink>(
 {
     let rt = place.rt;
     match order {
-        Order::Perform(task) => {
-            let paths = LocalFolder {
-                rt,
-                brought: place.brought,
-            };
-            perform_with_progress(paths, task, conn, out, err)
-        }
+        Order::Perform(task) => perform_with_progress(place, task, conn, out, err),
         Order::Serve {
             port,
             connections,
@@ -285,7 +314,7 @@ fn close<D: Disk + Drop>(conn: Connection<FileStore<D>>) -> Option<Files<D>>
 /// Performs an order on the database that the first word names, and returns the status.
 fn perform_at_path<O: Sink, E: Sink>(
     rt: &HostRuntime,
-    words: &[&str],
+    given: &SplitWords<'_>,
     order: &Order<'_>,
     out: &mut O,
     err: &mut E,
@@ -297,6 +326,7 @@ fn perform_at_path<O: Sink, E: Sink>(
         has_moved: Cell::new(false),
         listeners: Cell::new(None),
     };
+    let words = given.words.as_slice();
     let path = match words.first() {
         Some(path) => *path,
         None => "",
@@ -306,6 +336,7 @@ fn perform_at_path<O: Sink, E: Sink>(
         path,
         words,
         order,
+        second: given.second,
         is_successor: false,
         succession: &succession,
     };
@@ -314,12 +345,37 @@ fn perform_at_path<O: Sink, E: Sink>(
     status
 }
 
-/// Does what the given words, starting with DB, ask for, and returns the status. Making codes and printing slips need no database.
-fn follow_words<O: Sink, E: Sink>(rt: &HostRuntime, words: &[&str], out: &mut O, err: &mut E) -> u8
+/// Returns whether an order can have a second record: its requests, if any, change an office that exists.
+fn takes_second(order: &Order<'_>) -> bool {
+    matches!(order, Order::Perform(Task::InOffice(_)))
+}
+
+/// Prints that an order can't have a second record, and returns the status.
+fn refuse_second<O: Sink, E: Sink>(alloc: Global, out: &mut O, err: &mut E) -> u8
     requires out { O.failed out.old < 2 ^ 64 - 1 }
     requires err { E.failed err.old < 2 ^ 64 - 1 }
 {
-    match order(rt.alloc(), &*words) {
+    let text = "error: --second FILE goes with an order that changes an office\n";
+    match String::from_str(alloc, text) {
+        Ok(text) => tell_words(&WordsFault::Words { text, status: 2 }, out, err),
+        Err(_) => tell_words(&WordsFault::Memory, out, err),
+    }
+}
+
+/// Does what the given words, starting with DB, ask for, and returns the status. Making codes and printing slips need no database.
+fn follow_split<O: Sink, E: Sink>(
+    rt: &HostRuntime,
+    given: &SplitWords<'_>,
+    out: &mut O,
+    err: &mut E,
+) -> u8
+    requires out { O.failed out.old < 2 ^ 64 - 1 }
+    requires err { E.failed err.old < 2 ^ 64 - 1 }
+{
+    match order(rt.alloc(), &given.words) {
+        Ok(order) if given.second.is_some() && !takes_second(&order) => {
+            refuse_second(rt.alloc(), out, err)
+        }
         Ok(
             Order::Codes {
                 path,
@@ -335,8 +391,20 @@ fn follow_words<O: Sink, E: Sink>(rt: &HostRuntime, words: &[&str], out: &mut O,
             make_codes_file(rt, asked, out, err)
         }
         Ok(Order::Slips { path, address }) => print_slips(rt, path, address, out, err),
-        Ok(order) => perform_at_path(rt, words, &order, out, err),
+        Ok(order) => perform_at_path(rt, given, &order, out, err),
         Err(fault) => tell_words(&fault, out, err),
+    }
+}
+
+/// Does what the given words, starting with DB, ask for, and returns the status. They may have `--second FILE` in addition to an
+/// order's own.
+fn follow_words<O: Sink, E: Sink>(rt: &HostRuntime, words: &[&str], out: &mut O, err: &mut E) -> u8
+    requires out { O.failed out.old < 2 ^ 64 - 1 }
+    requires err { E.failed err.old < 2 ^ 64 - 1 }
+{
+    match split_words(rt.alloc(), words) {
+        Ok(given) => follow_split(rt, &given, out, err),
+        Err(_) => tell_words(&WordsFault::Memory, out, err),
     }
 }
 

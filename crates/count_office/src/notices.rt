@@ -2,6 +2,8 @@
 //! even if these lines can't be written.
 
 use crate::moved_note::moved_to;
+use crate::second_file::SecondFault;
+use desk::RecordFault;
 use std::fs;
 use std::io::{IsTerminal, Write};
 use std::os::unix::fs::MetadataExt;
@@ -41,6 +43,19 @@ pub fn tell_if_moved(rt: &HostRuntime, database: &str) {
 pub fn tell_serving(rt: &HostRuntime, path: &str) {
     let mut stderr = rt.stderr();
     let _ = writeln!(stderr, "serving {path} now");
+}
+
+/// Prints why the file of a second record can't be used.
+pub fn tell_second_unusable(rt: &HostRuntime, path: &str, why: SecondFault) {
+    let mut stderr = rt.stderr();
+    let why = why.text();
+    let _ = writeln!(stderr, "{path}: {why}");
+}
+
+/// Prints that a request was accepted, but not recorded, and what to do.
+pub fn tell_second_failed(rt: &HostRuntime, path: &str, fault: RecordFault) {
+    let mut stderr = rt.stderr();
+    let _ = writeln!(stderr, "{path}: {fault}; begin a new file with the order journal");
 }
 
 /// Prints what an order is waiting for, if the error output is a terminal.

@@ -32,14 +32,15 @@ const PAUSE: u64 = 10;
 /// The number of pauses after which the program tells a person at a terminal what the order is waiting for.
 const PAUSES_UNSEEN: u32 = 50;
 
-/// An order, its words starting with DB, and the path of its database; whether that is the database of a new office that takes the
-/// place of one that was served, and what is left of that one.
+/// An order, its words starting with DB, the path of its database, and that of a second record if one was given; whether the database is
+/// that of a new office that takes the place of one that was served, and what is left of that one.
 #[derive(Clone, Copy)]
 pub struct OrderRun<'a> {
     pub rt: &'a HostRuntime,
     pub path: &'a str,
     pub words: &'a [&'a str],
     pub order: &'a Order<'a>,
+    pub second: Option<&'a str>,
     pub is_successor: bool,
     pub succession: &'a Succession,
 }
@@ -161,6 +162,10 @@ fn hand_over<O: Sink, E: Sink>(
     let Some(order_files) = brought else {
         return Err(LockHolder::Order);
     };
+    // The program that serves the database doesn't append to the second record of an order.
+    if request.second.is_some() {
+        return Ok(tell_failure(Failure::BeingServed, err));
+    }
     match send_order(request.rt, database, order_files) {
         Sent::Replying(reply) => Ok(print_watched(request, reply, out, err)),
         Sent::Unread => Err(LockHolder::Order),
@@ -199,6 +204,7 @@ fn perform_locked<O: Sink, E: Sink>(
         found,
         lock,
         brought,
+        second: request.second,
         is_successor: request.is_successor,
         succession: request.succession,
     };

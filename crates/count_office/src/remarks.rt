@@ -103,6 +103,7 @@ fn answer(run: OrderRun<'_>, question: &[&str]) -> Option<String> {
     let asked = OrderRun {
         words: question,
         order: &order,
+        second: None,
         ..run
     };
     let (mut answer, mut errors) = (Vec::new(alloc), Vec::new(alloc));

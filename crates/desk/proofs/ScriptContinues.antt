@@ -1,6 +1,6 @@
 -- A script that goes on: whole lines, and another whole line appended to them.
-use Rattle.std.proofs.Common.{◌≡◌, ◌⊎◌, ◌∙◌, ◌==◌, ◌&&◌, ◌≤◌, inl, inr, ℕ, suc, Bool, true, false, List, [], ◌∷◌, ◌++◌, Option, Some, length, map, take, drop, refl, sym, ap, ap₂, arith, subst, eqb-true, leb, leb-true, leb-false}
-use Rattle.std.specs.Prelude.{◌||◌, IsOkAnd}
+use Rattle.std.proofs.Common.{◌≡◌, ◌⊎◌, ◌∙◌, ◌==◌, ◌&&◌, ◌≤◌, inl, inr, ℕ, suc, Bool, true, false, List, [], ◌∷◌, ◌++◌, Some, length, map, take, drop, refl, sym, ap, ap₂, arith, subst, eqb-true, leb, leb-true, leb-false}
+use Rattle.std.specs.Prelude.{◌||◌}
 use Rattle.std.specs.List.{list_any}
 use Rattle.std.proofs.lemmas.List.{append-nil, append_assoc, map-append, take-append-drop, take-append-le, take_all, length-append}
 use Rattle.std.proofs.lemmas.List.Folds.{list_any-append}
@@ -9,7 +9,7 @@ use Rattle.register.specs.declared.command.Request.{Request}
 use Rattle.desk.specs.Journals.{AreSent, IsScriptOf}
 use Rattle.desk.specs.Scripts.{whole_lines, whole_lines_from}
 use Rattle.desk.specs.RequestLines.{IsWholeLine}
-use Rattle.desk.specs.Scripts.{AreTurns, Means, Numbered, Typed, behind_byte_order_mark, lines_from, lines_of, numbered_from, passes_over, script_lines, typed, typed_line, words_of}
+use Rattle.desk.specs.Scripts.{AreTurns, Numbered, Typed, behind_byte_order_mark, lines_from, lines_of, numbered_from, passes_over, script_lines, typed_line, words_of}
 use Rattle.desk.specs.declared.orders.Errand.{Errand}
 use Rattle.desk.specs.declared.orders.Errand.TheVariants as errand
 use Rattle.desk.specs.declared.scripts.ScriptStep.{ScriptStep}
@@ -149,15 +149,6 @@ numbered_append k (line ∷ a) b = by (numbered_append (suc k) a b) (passes_over
 abbrev MeanAlso : List Numbered → List ScriptStep → Type 0
 MeanAlso lines turns = (others : List ScriptStep) × AreTurns (map typed_line lines) others × (map (λ (t : ScriptStep). t.errand) others ≡ map (λ (t : ScriptStep). t.errand) turns)
 
--- one more line, with the given number
-mean_more : (m : ℕ) (words : Option (List Text)) (lines : List Numbered) (turn : ScriptStep) (turns later : List ScriptStep) → turns ≡ turn ∷ later
-    → IsOkAnd (typed words) (λ ws. Means ws turn.errand) → MeanAlso lines later → MeanAlso (record { number = m; words = words } ∷ lines) turns
-mean_more m words lines turn turns later is means (others, are, same) = (
-  record { line = Some m; errand = turn.errand } ∷ others,
-  (record { line = Some m; errand = turn.errand }, others, refl, record { line_number = refl; means = means }, are),
-  ap (λ (es : List Errand). turn.errand ∷ es) same ∙ sym (ap (map (λ (t : ScriptStep). t.errand)) is),
-)
-
 renumbered : (k m : ℕ) (lines : List Text) (turns : List ScriptStep) → AreTurns (map typed_line (numbered_from k lines)) turns → MeanAlso (numbered_from m lines) turns
 renumbered k m [] turns are = ([], refl, sym (ap (map (λ (t : ScriptStep). t.errand)) are))
 renumbered k m (line ∷ lines) turns are = by (renumbered (suc k) (suc m) lines) (passes_over line) refl
@@ -166,7 +157,13 @@ renumbered k m (line ∷ lines) turns are = by (renumbered (suc k) (suc m) lines
         → (e : Bool) → passes_over line ≡ e → MeanAlso (numbered_from m (line ∷ lines)) turns
     by goes true e = rw e (goes turns (rw e at are))
     by goes false e =
-        let it = rw e at are in rw e (mean_more m (words_of line) (numbered_from (suc m) lines) it.0 turns it.1 it.2 it.3.means (goes it.1 it.4))
+        let it = rw e at are in
+        let rest = goes it.1 it.4 in
+        let other : ScriptStep = record { line = Some m; errand = it.0.errand } in (
+          other ∷ rest.0,
+          rw e (other, rest.0, refl, record { line_number = refl; means = it.3.means }, rest.1),
+          ap (λ (es : List Errand). it.0.errand ∷ es) rest.2 ∙ sym (ap (map (λ (t : ScriptStep). t.errand)) it.2),
+        )
 
 -- the requests that follow those of a script
 sent_append : (turns others : List ScriptStep) (requests more : List Request) → AreSent turns requests → AreSent others more → AreSent (turns ++ others) (requests ++ more)

@@ -1,8 +1,8 @@
 -- Comparing the office with a second record of it.
-use Rattle.std.proofs.Common.{◌≡◌, ◌≢◌, ◌⊎◌, ◌∙◌, ◌+◌, ◌<◌, ◌≤◌, inl, inr, ℕ, Bool, true, false, List, [], ◌∷◌, ◌++◌, length, map, get_or, drop, Option, Some, None, Result, Ok, Err, IfOk, IfErr}
+use Rattle.std.proofs.Common.{◌≡◌, ◌⊎◌, ◌∙◌, ◌<◌, ◌≤◌, inl, inr, ℕ, Bool, true, false, List, [], ◌∷◌, ◌++◌, length, Option, Some, None, Result, Ok, Err, IfOk, IfErr}
 use Rattle.std.proofs.Common.{refl, sym, ap, ap₂, subst, arith}
-use Rattle.std.specs.Prelude.{not, option_and_then}
-use Rattle.std.proofs.lemmas.List.{length-append, length-map}
+use Rattle.std.specs.Prelude.{option_and_then}
+use Rattle.std.proofs.lemmas.List.{length-append}
 use Rattle.clap.specs.Words.{Text}
 use Rattle.register.specs.Offices.{OfficeState}
 use Rattle.register.specs.declared.command.Request.{Request}
@@ -13,13 +13,13 @@ use Rattle.desk.specs.Journals.{AreSent, IsScriptOf}
 use Rattle.desk.specs.Mends.{out_of_memory}
 use Rattle.desk.specs.Pages.{Page, printed, unequal, unjournalled}
 use Rattle.desk.specs.Scripts.{AreTurns, script_lines, whole_lines}
-use Rattle.desk.specs.Seconds.{HasUngiven, IsCompared, IsDifference, IsFaultOfRecord, IsSecondTold, IsTextTold}
+use Rattle.desk.specs.Seconds.{HasUngiven, IsCompared, IsDifference, IsNoRecord, IsSecondTold, IsTextTold}
 use Rattle.desk.specs.Seconds.{apart_text, first_ungiven, is_given, more_here_text, more_there_text, record_page, same_text}
 use Rattle.desk.specs.declared.orders.Errand.{Errand}
 use Rattle.desk.specs.declared.orders.Errand.TheVariants as errand
 use Rattle.desk.specs.declared.scripts.ScriptStep.{ScriptStep}
-use Rattle.desk.specs.declared.second_record.RecordFault.{RecordFault}
-use Rattle.desk.specs.declared.second_record.RecordFault.TheVariants as record_fault
+use Rattle.desk.specs.declared.second_record.NoRecord.{NoRecord}
+use Rattle.desk.specs.declared.second_record.NoRecord.TheVariants as no_record
 use Rattle.desk.proofs.ScriptEnds.{holds_also, no_output}
 
 -- ---- the steps of a record
@@ -40,21 +40,22 @@ given_errand (errand.Ask question) given = absurd (cc given)
 -- steps of which none does anything else send requests
 all_given : (turns : List ScriptStep) → first_ungiven turns ≡ None → (requests : List Request) × AreSent turns requests
 all_given [] none = ([], refl)
-all_given (turn ∷ turns) none = by (is_given turn.errand) refl
+all_given (turn ∷ turns) none = by (is_given turn.errand) refl (all_given turns)
   where
-    by : (b : Bool) → is_given turn.errand ≡ b → (requests : List Request) × AreSent (turn ∷ turns) requests
-    by true given =
+    by : (b : Bool) → is_given turn.errand ≡ b → (first_ungiven turns ≡ None → (requests : List Request) × AreSent turns requests)
+        → (requests : List Request) × AreSent (turn ∷ turns) requests
+    by true given more =
         let first = given_errand turn.errand given in
-        let rest = all_given turns (rw given at none) in
+        let rest = more (rw given at none) in
         (first.0 ∷ rest.0, ap₂ (λ (e : Errand) (es : List Errand). e ∷ es) first.1 rest.1)
-    by false other = let some : Some turn ≡ None = rw other at none in absurd (cc some)
+    by false other more = let some : Some turn ≡ None = rw other at none in absurd (cc some)
 
 -- if no requests are all that the steps send, the line is that of the first step that does something else
 pub ungiven_found : (turns : List ScriptStep) (line : Option ℕ) → line ≡ option_and_then (λ (t : ScriptStep). t.line) (first_ungiven turns)
-    → ((requests : List Request) → AreSent turns requests → ⊥) → HasUngiven turns (record_fault.Ungiven line)
+    → ((requests : List Request) → AreSent turns requests → ⊥) → HasUngiven turns (no_record.Ungiven line)
 ungiven_found turns line is none = by (first_ungiven turns) refl
   where
-    by : (o : Option ScriptStep) → first_ungiven turns ≡ o → HasUngiven turns (record_fault.Ungiven line)
+    by : (o : Option ScriptStep) → first_ungiven turns ≡ o → HasUngiven turns (no_record.Ungiven line)
     by None e = let all = all_given turns e in absurd (none all.0 all.1)
     by (Some turn) e = (turn, e, is ∙ ap (option_and_then (λ (t : ScriptStep). t.line)) e)
 
@@ -66,17 +67,17 @@ given_script items text turns are (Ok (Err f)) sent = tt
 given_script items text turns are (Err e) sent = tt
 
 -- one of them does something else
-pub ungiven_script : {V E : Type 0} (text : Text) (turns : List ScriptStep) → AreTurns (script_lines text) turns → (r : Result (Result V RecordFault) E)
-    → IfOk r (λ found. IfErr found (λ f. HasUngiven turns f)) → IfOk r (λ found. IfErr found (λ f. IsFaultOfRecord text f))
+pub ungiven_script : {V E : Type 0} (text : Text) (turns : List ScriptStep) → AreTurns (script_lines text) turns → (r : Result (Result V NoRecord) E)
+    → IfOk r (λ found. IfErr found (λ f. HasUngiven turns f)) → IfOk r (λ found. IfErr found (λ f. IsNoRecord text f))
 ungiven_script text turns are (Ok (Ok v)) why = tt
-ungiven_script text turns are (Ok (Err (record_fault.Script f))) why = absurd why
-ungiven_script text turns are (Ok (Err (record_fault.Ungiven line))) why = (turns, are, why)
+ungiven_script text turns are (Ok (Err (no_record.Script f))) why = absurd why
+ungiven_script text turns are (Ok (Err (no_record.Ungiven line))) why = (turns, are, why)
 ungiven_script text turns are (Err e) why = tt
 
 -- the page has nothing for the output
-pub no_record_output : (why : RecordFault) → (record_page why).out ≡ []
-no_record_output (record_fault.Script why) = no_output why
-no_record_output (record_fault.Ungiven line) = refl
+pub no_record_output : (why : NoRecord) → (record_page why).out ≡ []
+no_record_output (no_record.Script why) = no_output why
+no_record_output (no_record.Ungiven line) = refl
 
 -- ---- how an office and a record differ
 
@@ -140,7 +141,7 @@ pub file_told : (s : OfficeState) (path : Text) (file : File) (bytes : Text) (pa
 file_told s path file bytes page holds (inl (requests, script, told)) =
     inl (requests, holds_also (λ text. bytes ≡ text) (λ text. IsScriptOf (whole_lines text) requests) file (λ text is. subst (λ (t : Text). IsScriptOf (whole_lines t) requests) is script) holds, told)
 file_told s path file bytes page holds (inr (inl (why, told, wrong))) =
-    inr (inl (why, told, holds_also (λ text. bytes ≡ text) (λ text. IsFaultOfRecord (whole_lines text) why) file (λ text is. subst (λ (t : Text). IsFaultOfRecord (whole_lines t) why) is wrong) holds))
+    inr (inl (why, told, holds_also (λ text. bytes ≡ text) (λ text. IsNoRecord (whole_lines text) why) file (λ text is. subst (λ (t : Text). IsNoRecord (whole_lines t) why) is wrong) holds))
 file_told s path file bytes page holds (inr (inr failed)) = inr (inr (inr failed))
 
 -- the file at the path

@@ -11,7 +11,7 @@ use Rattle.register.specs.Offices.{OfficeState}
 use Rattle.register.specs.Machine.{Outcome, accepted, kept, refused, after_one, step_of}
 use Rattle.register.specs.declared.command.Request.{Request}
 use Rattle.office.specs.Answers.{IsOpenAt, Told, again, done, no, told_of}
-use Rattle.desk.specs.Headline.{IsAnsweredBy, IsSentBy, answer, ended, told_above}
+use Rattle.desk.specs.Headline.{IsAnswered, IsAnsweredBy, IsSentBy, answer, ended, told_above}
 use Rattle.desk.specs.Orders.{Sent, sent_as}
 use Rattle.desk.specs.Pages.{Cut, uncut, cut_behind, cut_error, Page, below, empty_page, fronted, goes_on, page_counted}
 use Rattle.desk.specs.Parts.{IsCountedBy, IsOver, IsStageBy}
@@ -44,9 +44,15 @@ abbrev pub page_under : Text → OfficeState → Request → Told → Page
 page_under id s r = page_counted (is_first id r)
 
 -- the answer to a request, given whether it is the first one
+plain_under : (old : State) (closed : Bool) (st : State) (id : Text) (first : Bool) (s : OfficeState) (r : Request) (answered : ℕ) (page : Page) → first ≡ is_first id r
+    → IsAnswered old closed st (λ t q. page_counted first) s r answered page → IsAnswered old closed st (page_under id) s r answered page
+plain_under old closed st id first s r answered page is met = subst (λ b. IsAnswered old closed st (λ t q. page_counted b) s r answered page) is met
+
 pub answered_under : (recorded : Bool) (old : State) (closed : Bool) (st : State) (id : Text) (first : Bool) (s : OfficeState) (r : Request) (answered : ℕ) (page : Page) → first ≡ is_first id r
     → IsAnsweredBy old closed st recorded (λ t q. page_counted first) s r answered page → IsAnsweredBy old closed st recorded (page_under id) s r answered page
-answered_under recorded old closed st id first s r answered page is met = subst (λ b. IsAnsweredBy old closed st recorded (λ t q. page_counted b) s r answered page) is met
+answered_under false old closed st id first s r answered page is met = plain_under old closed st id first s r answered page is met
+answered_under true old closed st id first s r answered page is (inl met) = inl (plain_under old closed st id first s r answered page is met)
+answered_under true old closed st id first s r answered page is (inr missed) = inr missed
 
 -- the outcome of a request, relative to an earlier state
 pub stage_since : (recorded : Bool) (a b : State) (closed : Bool) (st : State) (first : Bool) (s : OfficeState) (r : Request) (page : Page) (answered : ℕ) (goes : Bool) → TellsSince a b st

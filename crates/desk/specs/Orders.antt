@@ -355,8 +355,8 @@ orders =
     ∷ takes (codes "fields") (number (codes "BATCH") ∷ number_or_none (codes "CLERK") ∷ []) (λ batch clerk. ask (question.Fields batch clerk))
     ∷ takes (codes "receipts") (number_or_none (codes "ACTOR") ∷ []) (λ actor. ask (question.Receipts actor))
     ∷ takes (codes "journal") [] journal
-    ∷ takes (codes "replay") (text (codes "FILE") ∷ flag (codes "keep-going") ∷ flag (codes "cut") ∷ []) replay
     ∷ takes (codes "second") (text (codes "FILE") ∷ []) second
+    ∷ takes (codes "replay") (text (codes "FILE") ∷ flag (codes "keep-going") ∷ flag (codes "cut") ∷ []) replay
     ∷ takes (codes "copy") (text (codes "NEW") ∷ []) copy
     ∷ takes (codes "mend") (text (codes "NEW") ∷ options (codes "without") ∷ options (codes "with") ∷ []) (mend false)
     ∷ takes (codes "switch") (text (codes "NEW") ∷ options (codes "without") ∷ options (codes "with") ∷ []) (mend true)

@@ -19,8 +19,8 @@ use Rattle.desk.specs.declared.orders.Errand.{Errand}
 use Rattle.desk.specs.declared.orders.Errand.TheVariants as errand
 use Rattle.desk.specs.declared.scripts.ScriptFault.TheVariants as script
 use Rattle.desk.specs.declared.scripts.ScriptStep.{ScriptStep}
-use Rattle.desk.specs.declared.second_record.RecordFault.{RecordFault}
-use Rattle.desk.specs.declared.second_record.RecordFault.TheVariants as record_fault
+use Rattle.desk.specs.declared.second_record.NoRecord.{NoRecord}
+use Rattle.desk.specs.declared.second_record.NoRecord.TheVariants as no_record
 
 -- ---- what is printed
 
@@ -54,9 +54,9 @@ abbrev pub ungiven_page : Option ℕ → Page
 ungiven_page line = record { out = []; err = line_front line ++ codes "error: an order in a second record is one request, and names no file\n"; status = 2 }
 
 -- the page that says why a file isn't a second record
-abbrev pub record_page : RecordFault → Page
-record_page (record_fault.Script why) = script_page why
-record_page (record_fault.Ungiven line) = ungiven_page line
+abbrev pub record_page : NoRecord → Page
+record_page (no_record.Script why) = script_page why
+record_page (no_record.Ungiven line) = ungiven_page line
 
 -- ---- what a text holds
 
@@ -70,16 +70,16 @@ abbrev pub first_ungiven : List ScriptStep → Option ScriptStep
 first_ungiven turns = find (λ turn. not (is_given turn.errand)) turns
 
 -- the fault is that of steps of which one does something else: the first of them has the given line
-abbrev pub HasUngiven : List ScriptStep → RecordFault → Type 0
-HasUngiven turns (record_fault.Script why) = ⊥
-HasUngiven turns (record_fault.Ungiven line) = (turn : ScriptStep) × (first_ungiven turns ≡ Some turn) × (line ≡ turn.line)
+abbrev pub HasUngiven : List ScriptStep → NoRecord → Type 0
+HasUngiven turns (no_record.Script why) = ⊥
+HasUngiven turns (no_record.Ungiven line) = (turn : ScriptStep) × (first_ungiven turns ≡ Some turn) × (line ≡ turn.line)
 
 -- Why a text isn't a script of requests: its first line that isn't understood has the given flaw; or all lines are understood, and the given line has the first order that does
 -- something other than send one given request.
-abbrev pub IsFaultOfRecord : Text → RecordFault → Type 0
-IsFaultOfRecord text (record_fault.Script script.Memory) = ⊥
-IsFaultOfRecord text (record_fault.Script (script.ScriptLine number flaw)) = IsFirstFlaw (script_lines text) number flaw
-IsFaultOfRecord text (record_fault.Ungiven line) = (turns : List ScriptStep) × AreTurns (script_lines text) turns × HasUngiven turns (record_fault.Ungiven line)
+abbrev pub IsNoRecord : Text → NoRecord → Type 0
+IsNoRecord text (no_record.Script script.Memory) = ⊥
+IsNoRecord text (no_record.Script (script.ScriptLine number flaw)) = IsFirstFlaw (script_lines text) number flaw
+IsNoRecord text (no_record.Ungiven line) = (turns : List ScriptStep) × AreTurns (script_lines text) turns × HasUngiven turns (no_record.Ungiven line)
 
 -- whether a request has this actor and this id
 abbrev pub has_name : ℕ → Text → Request → Bool
@@ -122,13 +122,13 @@ IsCompared s path requests page =
 abbrev pub IsTextTold : OfficeState → Text → Text → Page → Type 0
 IsTextTold s path text page =
     ((requests : List Request) × IsScriptOf (whole_lines text) requests × IsCompared s path requests page)
-    ⊎ (((why : RecordFault) × (page ≡ record_page why) × IsFaultOfRecord (whole_lines text) why) ⊎ IsFailed IsMemoryOrStore page)
+    ⊎ (((why : NoRecord) × (page ≡ record_page why) × IsNoRecord (whole_lines text) why) ⊎ IsFailed IsMemoryOrStore page)
 
 -- The page for an office at a state and a file at a path: the same for the text that the file contains. Or the file can't be read.
 abbrev pub IsSecondTold : OfficeState → Text → File → Page → Type 0
 IsSecondTold s path file page =
     ((requests : List Request) × HoldsText file (λ text. IsScriptOf (whole_lines text) requests) × IsCompared s path requests page)
-    ⊎ (((why : RecordFault) × (page ≡ record_page why) × HoldsText file (λ text. IsFaultOfRecord (whole_lines text) why)) ⊎ (IsUnreadScript page ⊎ IsFailed IsMemoryOrStore page))
+    ⊎ (((why : NoRecord) × (page ≡ record_page why) × HoldsText file (λ text. IsNoRecord (whole_lines text) why)) ⊎ (IsUnreadScript page ⊎ IsFailed IsMemoryOrStore page))
 
 -- the page of an order that opens the office at a state, and compares it with the file at a path, whatever that is; or a failure
 abbrev pub IsSecondPage : OfficeState → Text → Page → Type 0

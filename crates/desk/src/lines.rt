@@ -4,7 +4,8 @@ ghost use Rattle.std.specs.Prelude.{◌≡◌, ◌⊎◌, ◌-◌, ◌^◌, ◌<
 ghost use Rattle.std.specs.List.{flat_map};
 ghost use Rattle.keyfile.specs.Faults.{flaw_batch, flaw_between, flaw_clerk};
 ghost use Rattle.desk.specs.Pages.{IsErrorTold, IsPut, Shows, fronted, line_front, migrated_text, note_line, noted, numbered_line, outputs_of, printed, status_of_file};
-ghost use Rattle.desk.specs.Pages.{cut_note, failed, failure_number, failure_of, failure_text, no_form_text, page_of, refused, script_page, unformed, unjournalled, unmended, unread, unsealed, words_page};
+ghost use Rattle.desk.specs.Pages.{cut_note, failed, failure_number, failure_of, failure_text, no_form_text, page_of, refused, script_page};
+ghost use Rattle.desk.specs.Pages.{unformed, unjournalled, unmended, unread, unsealed, words_page};
 
 pub use crate::codes_lines::{
     tell_codes_and_office_made, tell_codes_fault, tell_codes_made, tell_slips,
@@ -164,7 +165,12 @@ fn put_line<W: Sink>(line: Option<usize>, pieces: &[&str], sink: &mut W) -> Resu
 
 /// Prints a line, given in pieces, to the error output, with the line number as a prefix if it concerns a script's line. Returns
 /// the given status, or 3 if the error output fails.
-pub(crate) fn tell_error<E: Sink>(line: Option<usize>, pieces: &[&str], status: u8, err: &mut E) -> u8
+pub(crate) fn tell_error<E: Sink>(
+    line: Option<usize>,
+    pieces: &[&str],
+    status: u8,
+    err: &mut E,
+) -> u8
     requires { E.failed err.old < 2 ^ 64 - 1 }
     ensures { IsErrorTold E.taken E.failed err.old err.new (line_front line ++ flat_map (λ piece. piece.now) pieces.now) status result }
 {

@@ -1,6 +1,6 @@
 //! Running the steps of an order: a single errand, or the orders of a script one after the other.
 
-ghost use Rattle.std.specs.Prelude.{◌≡◌, ◌∷◌, [], ◌-◌, ◌^◌, ◌<◌, false, true, map, option_map, IfErr, IfOk};
+ghost use Rattle.std.specs.Prelude.{◌≡◌, ◌∷◌, [], ◌-◌, ◌^◌, ◌<◌, false, map, option_map, true, IfErr, IfOk};
 ghost use Rattle.sqlite.specs.State.{HasCleanDisk};
 ghost use Rattle.sqlite.specs.Held.{state};
 ghost use Rattle.store.specs.StateTables.{KeepsConnection};
@@ -67,7 +67,7 @@ fn run<S: Alter, F: Folder, R: Recorder, O: Sink, E: Sink>(
     ensures ran { let outputs = outputs_of O.taken O.failed E.taken E.failed in Tells (outputs out.old err.old) (outputs out.new err.new) result
         (λ cut page. WhenOpenAt (state S.Store) office.old office.new (λ s. ComesToRecorded cut page
         (λ own answered. R.failed recorder.old ≡ false → IsRecorded s own answered (R.found recorder.old) (R.found recorder.new) (R.failed recorder.new))
-        (λ course. IsPlayedBy (R.records recorder.old) (state S.Store office.old.held) office.new.closed (state S.Store office.new.held) keep_going (F.held folder.now) s (record { line = line; errand = errand.now } ∷ []) course))) }
+        (λ course. IsPlayedBy (R.failed recorder.new) (state S.Store office.old.held) office.new.closed (state S.Store office.new.held) keep_going (F.held folder.now) s (record { line = line; errand = errand.now } ∷ []) course))) }
     ensures same { R.records recorder.new ≡ R.records recorder.old }
     ensures keeps_connection { KeepsConnection (state S.Store office.old.held) (state S.Store office.new.held) }
     ensures clean { HasCleanDisk (state S.Store office.new.held) → HasCleanDisk (state S.Store office.old.held) }
@@ -128,7 +128,7 @@ fn run_steps<S: Alter, F: Folder, R: Recorder, O: Sink, E: Sink>(
     ensures sent { let outputs = outputs_of O.taken O.failed E.taken E.failed in Tells (outputs out.old err.old) (outputs out.new err.new) result
         (λ cut page. WhenOpenAt (state S.Store) office.old office.new (λ s. ComesToRecorded cut page
         (λ own answered. R.failed recorder.old ≡ false → IsRecorded s own answered (R.found recorder.old) (R.found recorder.new) (R.failed recorder.new))
-        (λ course. IsPlayedBy (R.records recorder.old) (state S.Store office.old.held) office.new.closed (state S.Store office.new.held) keep_going (F.held folder.now) s turns.now course))) }
+        (λ course. IsPlayedBy (R.failed recorder.new) (state S.Store office.old.held) office.new.closed (state S.Store office.new.held) keep_going (F.held folder.now) s turns.now course))) }
     ensures same { R.records recorder.new ≡ R.records recorder.old }
     ensures keeps_connection { KeepsConnection (state S.Store office.old.held) (state S.Store office.new.held) }
     ensures clean { HasCleanDisk (state S.Store office.new.held) → HasCleanDisk (state S.Store office.old.held) }
@@ -170,7 +170,7 @@ fn run_part<S: Alter, F: Folder, R: Recorder, O: Sink, E: Sink>(
     ensures sent { let outputs = outputs_of O.taken O.failed E.taken E.failed in Tells (outputs out.old err.old) (outputs out.new err.new) result
         (λ cut page. WhenOpenAt (state S.Store) office.old office.new (λ s. ComesToRecorded cut page
         (λ own answered. R.failed recorder.old ≡ false → IsRecorded s own answered (R.found recorder.old) (R.found recorder.new) (R.failed recorder.new))
-        (λ course. IsBegunBy (R.records recorder.old) (state S.Store office.old.held) office.new.closed (state S.Store office.new.held) true keep_going (F.held folder.now) s turns.now course))) }
+        (λ course. IsBegunBy (R.failed recorder.new) (state S.Store office.old.held) office.new.closed (state S.Store office.new.held) true keep_going (F.held folder.now) s turns.now course))) }
     ensures same { R.records recorder.new ≡ R.records recorder.old }
     ensures keeps_connection { KeepsConnection (state S.Store office.old.held) (state S.Store office.new.held) }
     ensures clean { HasCleanDisk (state S.Store office.new.held) → HasCleanDisk (state S.Store office.old.held) }
@@ -199,7 +199,7 @@ fn begin_steps<S: Alter, F: Folder, R: Recorder, O: Sink, E: Sink>(
     ensures sent { let outputs = outputs_of O.taken O.failed E.taken E.failed in Tells (outputs out.old err.old) (outputs out.new err.new) result
         (λ cut page. WhenOpenAt (state S.Store) office.old office.new (λ s. ComesToRecorded cut page
         (λ own answered. R.failed recorder.old ≡ false → IsRecorded s own answered (R.found recorder.old) (R.found recorder.new) (R.failed recorder.new))
-        (λ course. IsBegunBy (R.records recorder.old) (state S.Store office.old.held) office.new.closed (state S.Store office.new.held) left_out keep_going (F.held folder.now) s turns.now course))) }
+        (λ course. IsBegunBy (R.failed recorder.new) (state S.Store office.old.held) office.new.closed (state S.Store office.new.held) left_out keep_going (F.held folder.now) s turns.now course))) }
     ensures same { R.records recorder.new ≡ R.records recorder.old }
     ensures keeps_connection { KeepsConnection (state S.Store office.old.held) (state S.Store office.new.held) }
     ensures clean { HasCleanDisk (state S.Store office.new.held) → HasCleanDisk (state S.Store office.old.held) }
@@ -229,22 +229,14 @@ fn run_script<S: Alter, F: Folder, R: Recorder, O: Sink, E: Sink>(
     ensures sent { let outputs = outputs_of O.taken O.failed E.taken E.failed in Tells (outputs out.old err.old) (outputs out.new err.new) result
         (λ cut page. WhenOpenAt (state S.Store) office.old office.new (λ s. ComesToRecorded cut page
         (λ own answered. R.failed recorder.old ≡ false → IsRecorded s own answered (R.found recorder.old) (R.found recorder.new) (R.failed recorder.new))
-        (λ course. IsReplayOfBy (R.records recorder.old) left_out keep_going (F.held folder.now) s (map typed_line_entry lines.now) course (state S.Store office.old.held) office.new.closed (state S.Store office.new.held)))) }
+        (λ course. IsReplayOfBy (R.failed recorder.new) left_out keep_going (F.held folder.now) s (map typed_line_entry lines.now) course (state S.Store office.old.held) office.new.closed (state S.Store office.new.held)))) }
     ensures same { R.records recorder.new ≡ R.records recorder.old }
     ensures keeps_connection { KeepsConnection (state S.Store office.old.held) (state S.Store office.new.held) }
     ensures clean { HasCleanDisk (state S.Store office.new.held) → HasCleanDisk (state S.Store office.old.held) }
 {
     match script_steps(alloc, lines) {
         Ok(turns) => begin_steps(
-            alloc,
-            office,
-            keep_going,
-            left_out,
-            &turns,
-            folder,
-            recorder,
-            out,
-            err,
+            alloc, office, keep_going, left_out, &turns, folder, recorder, out, err,
         ),
         Err(fault) => tell_script_fault(&fault, err),
     }
@@ -258,7 +250,10 @@ struct ScriptPart {
 }
 
 /// Returns the contents of a script's file, or the reason why there are none. `file` is None if it couldn't be opened.
-pub(crate) fn bytes_of<R: Read + Drop>(alloc: Global, file: Option<R>) -> Result<Vec<u8>, LineOutcome>
+pub(crate) fn bytes_of<R: Read + Drop>(
+    alloc: Global,
+    file: Option<R>,
+) -> Result<Vec<u8>, LineOutcome>
     ensures read { IfOk result (λ bytes. HoldsText (option_map R.remaining file) (λ text. bytes.items ≡ text)) }
     ensures unread { IfErr result (λ outcome. IsUnreadScript (page_of outcome)) }
 {
@@ -323,7 +318,7 @@ fn replay<S: Alter, F: Folder, R: Recorder, O: Sink, E: Sink>(
     ensures ran { let outputs = outputs_of O.taken O.failed E.taken E.failed in Tells (outputs out.old err.old) (outputs out.new err.new) result
         (λ cut page. WhenOpenAt (state S.Store) office.old office.new (λ s. ComesToRecorded cut page
         (λ own answered. R.failed recorder.old ≡ false → IsRecorded s own answered (R.found recorder.old) (R.found recorder.new) (R.failed recorder.new))
-        (λ course. IsDoneBy (R.records recorder.old) (state S.Store office.old.held) office.new.closed (state S.Store office.new.held) (F.held folder.now) s (Job.Replay asked.entry) course))) }
+        (λ course. IsDoneBy (R.failed recorder.new) (state S.Store office.old.held) office.new.closed (state S.Store office.new.held) (F.held folder.now) s (Job.Replay asked.entry) course))) }
     ensures same { R.records recorder.new ≡ R.records recorder.old }
     ensures keeps_connection { KeepsConnection (state S.Store office.old.held) (state S.Store office.new.held) }
     ensures clean { HasCleanDisk (state S.Store office.new.held) → HasCleanDisk (state S.Store office.old.held) }
@@ -335,15 +330,7 @@ fn replay<S: Alter, F: Folder, R: Recorder, O: Sink, E: Sink>(
     let (keep_going, left_out) = (asked.keep_going, script.left_out);
     match typed_lines(alloc, &script.lines) {
         Ok(said) => run_script(
-            alloc,
-            office,
-            keep_going,
-            left_out,
-            &said,
-            folder,
-            recorder,
-            out,
-            err,
+            alloc, office, keep_going, left_out, &said, folder, recorder, out, err,
         ),
         Err(_) => tell_script_fault(&ScriptFault::Memory, err),
     }
@@ -371,13 +358,15 @@ pub fn follow_recorded<S: Alter, F: Folder, R: Recorder, O: Sink, E: Sink>(
     ensures did { let outputs = outputs_of O.taken O.failed E.taken E.failed in Tells (outputs out.old err.old) (outputs out.new err.new) result
         (λ cut page. WhenOpenAt (state S.Store) office.old office.new (λ s. ComesToRecorded cut page
         (λ own answered. R.failed recorder.old ≡ false → IsRecorded s own answered (R.found recorder.old) (R.found recorder.new) (R.failed recorder.new))
-        (λ course. IsDoneBy (R.records recorder.old) (state S.Store office.old.held) office.new.closed (state S.Store office.new.held) (F.held folder.now) s job.now course))) }
+        (λ course. IsDoneBy (R.failed recorder.new) (state S.Store office.old.held) office.new.closed (state S.Store office.new.held) (F.held folder.now) s job.now course))) }
     ensures same { R.records recorder.new ≡ R.records recorder.old }
     ensures keeps_connection { KeepsConnection (state S.Store office.old.held) (state S.Store office.new.held) }
     ensures clean { HasCleanDisk (state S.Store office.new.held) → HasCleanDisk (state S.Store office.old.held) }
 {
     match job {
-        Job::Run(errand) => run(alloc, office, false, None, errand, folder, recorder, out, err),
+        Job::Run(errand) => run(
+            alloc, office, false, None, errand, folder, recorder, out, err,
+        ),
         Job::Replay(asked) => replay(alloc, office, *asked, folder, recorder, out, err),
     }
 }

@@ -18,7 +18,8 @@ ghost use Rattle.desk.specs.Journals.{AreSent, IsScriptOf};
 ghost use Rattle.desk.specs.Mends.{StaysReadAt, out_of_memory};
 ghost use Rattle.desk.specs.Pages.{IsErrorTold, Tells, outputs_of, page_of, printed, unequal, unjournalled};
 ghost use Rattle.desk.specs.Scripts.{whole_lines};
-ghost use Rattle.desk.specs.Seconds.{HasUngiven, IsCompared, IsDifference, IsFaultOfRecord, IsSecondTold, IsTextTold, apart_text, first_ungiven, has_name, is_given, more_here_text, more_there_text, record_page, request_words, same_text, sender_words};
+ghost use Rattle.desk.specs.Seconds.{HasUngiven, IsCompared, IsDifference, IsNoRecord, IsSecondTold, IsTextTold};
+ghost use Rattle.desk.specs.Seconds.{apart_text, first_ungiven, has_name, is_given, more_here_text, more_there_text, record_page, request_words, same_text, sender_words};
 
 use crate::folders::Folder;
 use crate::journal_check::{Draft, draft_of, requests_of};
@@ -37,8 +38,7 @@ use store::Fault;
 use streams::Sink;
 
 /// What is printed if an order of the record does something other than send one given request.
-const UNGIVEN: &str =
-    "error: an order in a second record is one request, and names no file\n";
+const UNGIVEN: &str = "error: an order in a second record is one request, and names no file\n";
 
 /// Two connections to empty databases, in which requests are replayed: those of the record; and then those without the last, or with
 /// one more.
@@ -49,7 +49,7 @@ pub struct SecondTrial<T: Alter> {
 
 /// The reason why a text isn't a second record.
 #[derive(Drop)]
-pub(crate) enum RecordFault {
+pub(crate) enum NoRecord {
     /// It isn't a script, or an allocation failed.
     Script(ScriptFault),
     /// The order on this line does something other than send one given request.
@@ -81,7 +81,7 @@ fn ungiven_line(turns: &[ScriptStep<'_>]) -> Option<usize>
 fn requests_given(
     alloc: Global,
     turns: Vec<ScriptStep<'_>>,
-) -> Result<Result<Vec<Request>, RecordFault>, AllocError>
+) -> Result<Result<Vec<Request>, NoRecord>, AllocError>
     ensures some { IfOk result (λ found. IfOk found (λ requests. AreSent turns.entry.items requests.items)) }
     ensures none { IfOk result (λ found. IfErr found (λ fault. HasUngiven turns.entry.items fault)) }
 {
@@ -89,14 +89,14 @@ fn requests_given(
     let found = requests_of(alloc, turns)?;
     match found {
         Some(requests) => Ok(Ok(requests)),
-        None => Ok(Err(RecordFault::Ungiven(line))),
+        None => Ok(Err(NoRecord::Ungiven(line))),
     }
 }
 
 /// Returns the requests of a text's whole lines, or why they aren't a script of requests. Fails if an allocation fails.
-fn record_in(alloc: Global, text: &[u8]) -> Result<Result<Vec<Request>, RecordFault>, AllocError>
+fn record_in(alloc: Global, text: &[u8]) -> Result<Result<Vec<Request>, NoRecord>, AllocError>
     ensures some { IfOk result (λ found. IfOk found (λ requests. IsScriptOf (whole_lines text.now) requests.items)) }
-    ensures none { IfOk result (λ found. IfErr found (λ fault. IsFaultOfRecord (whole_lines text.now) fault)) }
+    ensures none { IfOk result (λ found. IfErr found (λ fault. IsNoRecord (whole_lines text.now) fault)) }
 {
     let lines = lines_in(alloc, whole_lines(text))?;
     let said = typed_lines(alloc, &lines)?;
@@ -104,7 +104,7 @@ fn record_in(alloc: Global, text: &[u8]) -> Result<Result<Vec<Request>, RecordFa
         Ok(turns) => requests_given(alloc, turns),
         Err(ScriptFault::Memory) => Err(AllocError),
         Err(ScriptFault::ScriptLine(number, flaw)) => {
-            Ok(Err(RecordFault::Script(ScriptFault::ScriptLine(number, flaw))))
+            Ok(Err(NoRecord::Script(ScriptFault::ScriptLine(number, flaw))))
         }
     }
 }
@@ -164,7 +164,9 @@ fn more_there_text(alloc: Global, path: &str, request: &Request) -> Result<Strin
 fn apart_text(alloc: Global, path: &str, there: usize, here: usize) -> Result<String, AllocError>
     ensures { IfOk result (λ text. string_bytes text ≡ apart_text path.now there here) }
 {
-    format!(in alloc; "{path} is of another office, or they differ by more than one request: it has {there}, this office has {here}\n")
+    format!(in alloc;
+        "{path} is of another office, or they differ by more than one request: it has {there}, this office has {here}\n"
+    )
 }
 
 /// Returns the outcome if the record and the office hold the same.
@@ -198,13 +200,13 @@ fn apart(alloc: Global, path: &str, there: usize, here: usize) -> LineOutcome
 }
 
 /// Prints why a file isn't a second record. Returns 2, or 3 if an allocation or the error output fails.
-fn tell_record_fault<E: Sink>(fault: &RecordFault, err: &mut E) -> u8
+fn tell_no_record<E: Sink>(fault: &NoRecord, err: &mut E) -> u8
     requires { E.failed err.old < 2 ^ 64 - 1 }
     ensures { IsErrorTold E.taken E.failed err.old err.new (record_page fault.now).err (record_page fault.now).status result }
 {
     match fault {
-        RecordFault::Script(why) => tell_script_fault(why, err),
-        RecordFault::Ungiven(line) => tell_error(*line, &[UNGIVEN], 2, err),
+        NoRecord::Script(why) => tell_script_fault(why, err),
+        NoRecord::Ungiven(line) => tell_error(*line, &[UNGIVEN], 2, err),
     }
 }
 
@@ -319,8 +321,9 @@ fn more_there<T: Alter>(
     ensures { HasCleanDisk (state T.Store result.1) → IsBlank (state T.Store blank) → IsDifference (state_of rows.now) path.now requests.items (page_of result.0) }
 {
     let (there, here) = (requests.len(), rows.receipts.len());
-    let Some(last) = requests.pop() else {
-        return (apart(alloc, path, there, here), blank);
+    let last = match requests.pop() {
+        Some(last) => last,
+        None => return (apart(alloc, path, there, here), blank),
     };
     let (led, blank) = Office::leads_to(alloc, blank, &requests, rows);
     match led {
@@ -370,7 +373,10 @@ fn compared<T: Alter>(
     let SecondTrial { same: first, other } = trial;
     let (led, same) = Office::leads_to(alloc, first, &requests, rows);
     match led {
-        Ok(true) => (same_as(alloc, path, requests.len()), SecondTrial { same, other }),
+        Ok(true) => (
+            same_as(alloc, path, requests.len()),
+            SecondTrial { same, other },
+        ),
         Ok(false) => {
             let (outcome, other) = difference(alloc, path, requests, rows, other);
             (outcome, SecondTrial { same, other })
@@ -425,7 +431,7 @@ fn second_in<S: Alter, T: Alter, O: Sink, E: Sink>(
             let (outcome, trial) = compared_open(alloc, office, path, requests, trial);
             (tell(None, &outcome, out, err), trial)
         }
-        Err(fault) => (tell_record_fault(&fault, err), trial),
+        Err(fault) => (tell_no_record(&fault, err), trial),
     }
 }
 
@@ -433,9 +439,10 @@ fn second_in<S: Alter, T: Alter, O: Sink, E: Sink>(
 /// connections of the trial, which aren't closed.
 ///
 /// The whole lines of the file are parsed as a script of requests, and replayed in the first database of the trial. If they lead to
-/// exactly the state of the office, the status is 0. Otherwise it is 1, and the line says which of the two has one request more, and
-/// which request that is: if the office has more of them, the one in its journal that isn't in the record; otherwise the last one of the
-/// record. This is checked by replaying in the second database. If neither is so, the line has both numbers of requests.
+/// exactly the state of the office, the status is 0. Otherwise it is 1. If one of the two has one request more, the line says which, and
+/// shows that request. It is looked for in the office's journal if the office has more of them, and is the last one of the record
+/// otherwise; it is shown only if the requests with it, or without it, lead to the office in the second database. If they don't, the line
+/// has both numbers of requests.
 ///
 /// If a line of the file isn't understood, or its order is none that sends one given request, this is reported with its number and status
 /// 2. A file that can't be read, and a fault, are reported with status 3. The office is only read, whatever the outcome.

@@ -28,7 +28,7 @@ changes nothing.";
 
 /// The end of the help text: the orders of [`Heading::Office`] and of [`Heading::Everyone`], and the outcomes of orders.
 const END_OF_HELP: &str =
-    "For the office alone. The first eight change nothing, and no clerk may see what they print:
+    "For the office alone. The first nine change nothing, and no clerk may see what they print:
   wards              The status of each ward, and what is left to do
   batches WARD       Who has keyed each batch of a ward, its status, and which other
                      batch has the very same papers
@@ -38,6 +38,7 @@ const END_OF_HELP: &str =
   fields BATCH [CLERK]  How many fields the marks of a batch's papers have, and for whom
   receipts [ACTOR]   What was accepted, by id: of an actor, 0 for the office, or of all
   journal            What was accepted, as a script of orders that makes the same office
+  second FILE        Whether a second record, such as a journal, holds the same as the office
   replay FILE        Sends the orders of a text file, one per line, up to a refusal
   copy NEW           Makes a copy of the office, in a file that isn't there yet
   mend NEW           Makes a new office without some orders, or with others in their place

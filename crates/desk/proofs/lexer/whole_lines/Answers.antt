@@ -1,5 +1,5 @@
 -- Proof that `whole_lines` meets its contract.
-use Rattle.std.proofs.Common.{◌≡◌, ◌≤◌, ◌+◌, ◌∙◌, arith, length}
+use Rattle.std.proofs.Common.{arith, length-take}
 use Rattle.desk.proofs.WholeLineLemmas.{all_read, byte_read, line_read, none_read}
 use Rattle.desk.proofs.lexer.whole_lines.Goals.{then-text-i-eq10, else-text-i-eq10}
 use Rattle.desk.proofs.lexer.whole_lines.Goals as goal
@@ -16,7 +16,7 @@ loop-i-preserved c =
     ]
 
 pub slice_bounds-result-end : goal.slice_bounds-result-end
-slice_bounds-result-end c = let low = c.loop-i.invariant.within in let all = c.loop-i-test.false in let high = c.loop-i.auto.i-end in omega (arith, low, all, high)
+slice_bounds-result-end c = let low = c.loop-i.invariant.within in let high = c.loop-i.auto.i-end in simp length-take (omega (arith, low, high))
 
 pub returns : goal.returns
 returns c = all_read c.args.text.now c.loop-i.end c.loop-i.i (let all = c.loop-i-test.false in omega (arith, all)) c.loop-i.invariant

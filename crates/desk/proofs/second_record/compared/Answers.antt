@@ -1,5 +1,5 @@
 -- Proof that `compared` meets its contract.
-use Rattle.std.proofs.Common.{inr, refl}
+use Rattle.std.proofs.Common.{◌≡◌, arith, inr, length, refl}
 use Rattle.rowcheck.specs.States.{state_of}
 use Rattle.desk.specs.Pages.{page_of}
 use Rattle.desk.proofs.SecondLemmas.{told_different, told_same}
@@ -9,7 +9,8 @@ use Rattle.desk.proofs.second_record.compared.Goals as goal
 pub returns-in-Ok-true : goal.returns-in-Ok-true
 returns-in-Ok-true g c clean also blank other =
     let lead = rw (c.in-Ok-true.is, c.in-Ok-true.field-0-test) at (c.leads_to-led.ensures.leads clean blank) in
-    told_same (state_of c.args.rows.now) c.args.path.now c.args.requests.items (page_of c.same_as.result) _ refl c.same_as.ensures (rw c.deref.ensures.value at (lead refl))
+    let count : c.len.result ≡ length c.args.requests.items = omega arith in
+    told_same (state_of c.args.rows.now) c.args.path.now c.args.requests.items (page_of c.same_as.result) _ count c.same_as.ensures (rw c.deref.ensures.value at (lead refl))
 
 -- they don't
 pub returns-in-Ok-false : goal.returns-in-Ok-false

@@ -1,5 +1,5 @@
 -- Proof that `difference` meets its contract.
-use Rattle.std.proofs.Common.{arith, refl, sym}
+use Rattle.std.proofs.Common.{◌≡◌, ◌≤◌, arith, length}
 use Rattle.std.proofs.lemmas.List.{length-map}
 use Rattle.register.specs.Offices.{receipt_entry}
 use Rattle.rowcheck.specs.States.{state_of}
@@ -11,9 +11,11 @@ use Rattle.desk.proofs.second_record.difference.Goals as goal
 pub returns-in-Ok-None : goal.returns-in-Ok-None
 returns-in-Ok-None g c clean blank =
     let s = state_of c.args.rows.now in
-    let here = sym (length-map c.args.rows.now.receipts.items receipt_entry) in
-    told_apart s c.args.path.now c.args.requests.items (page_of c.apart.result) _ _ refl here c.apart.ensures
-    (none_fewer s c.args.path.now c.args.requests.items (page_of c.apart.result) _ _ refl here (omega arith))
+    let one : c.len-there.result ≡ length c.args.requests.items = omega arith in
+    let two : c.len-here.result ≡ length (state_of c.args.rows.now).receipts = omega (arith, length-map c.args.rows.now.receipts.items receipt_entry) in
+    let low : c.len-there.result ≤ c.len-here.result = omega arith in
+    told_apart s c.args.path.now c.args.requests.items (page_of c.apart.result) _ _ one two c.apart.ensures
+    (none_fewer s c.args.path.now c.args.requests.items (page_of c.apart.result) _ _ one two low)
 
 -- there is no journal, or an allocation failed
 pub returns-in-Err : goal.returns-in-Err

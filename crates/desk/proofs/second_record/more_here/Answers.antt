@@ -1,5 +1,5 @@
 -- Proof that `more_here` meets its contract.
-use Rattle.std.proofs.Common.{◌∙◌, ap, inl, inr, refl, sym, string_bytes}
+use Rattle.std.proofs.Common.{◌≡◌, ◌≤◌, ap, arith, inl, inr, length, refl, string_bytes}
 use Rattle.std.proofs.lemmas.List.{length-map}
 use Rattle.register.specs.Offices.{receipt_entry}
 use Rattle.rowcheck.specs.States.{state_of}
@@ -20,13 +20,15 @@ returns-in-Ok-true g c clean blank =
 pub returns-in-Ok-false : goal.returns-in-Ok-false
 returns-in-Ok-false g c clean blank =
     let s = state_of c.args.rows.now in
-    let here = sym (length-map c.args.rows.now.receipts.items receipt_entry) in
-    told_apart s c.args.path.now c.args.requests.items (page_of c.apart.result) _ _ refl here c.apart.ensures
-    (none_fewer s c.args.path.now c.args.requests.items (page_of c.apart.result) _ _ refl here c.requires)
+    let low : c.len-there.result ≤ c.len-here.result = omega (arith, c.requires) in
+    let one : c.len-there.result ≡ length c.args.requests.items = omega arith in
+    let two : c.len-here.result ≡ length (state_of c.args.rows.now).receipts = omega (arith, length-map c.args.rows.now.receipts.items receipt_entry) in
+    told_apart s c.args.path.now c.args.requests.items (page_of c.apart.result) _ _ one two c.apart.ensures
+    (none_fewer s c.args.path.now c.args.requests.items (page_of c.apart.result) _ _ one two low)
 
 -- an allocation or the trial failed
 pub returns-in-Err : goal.returns-in-Err
 returns-in-Err g c clean blank = inr (Memory, refl, inl refl)
 
-pub returns-in-Err-led : goal.returns-in-Err-led
-returns-in-Err-led g c clean blank = inr (c.in-Err-led.fault, refl, rw c.in-Err-led.is at c.leads_to-led.ensures.told)
+pub returns : goal.returns
+returns g c clean blank = inr (c.in-Err-led.fault, refl, rw c.in-Err-led.is at c.leads_to-led.ensures.told)

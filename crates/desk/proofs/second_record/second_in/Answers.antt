@@ -40,8 +40,8 @@ returns-in-Ok-found-clause-told g c =
 pub returns-in-Err-found-clause-told : goal.returns-in-Err-found-clause-told
 returns-in-Err-found-clause-told g c =
     let why = c.in-Err-found.fault in
-    let told = error_shown g.O.Sink.taken g.O.Sink.failed g.E.Sink.taken g.E.Sink.failed c.args.out.now c.args.err.now c.tell_record_fault.new.err (record_page why)
-    c.tell_record_fault.result (no_record_output why) c.tell_record_fault.ensures in
+    let told = error_shown g.O.Sink.taken g.O.Sink.failed g.E.Sink.taken g.E.Sink.failed c.args.out.now c.args.err.now c.tell_no_record.new.err (record_page why)
+    c.tell_no_record.result (no_record_output why) c.tell_no_record.ensures in
     record { page = record_page why; cut = told.0; shown = told.1; is = λ clean was s at same other blank also. inr (inl (why, refl, rw c.in-Err-found.is at c.in-Ok.ensures.none)) }
 
 pub returns-in-Err-found-clause-stays : goal.returns-in-Err-found-clause-stays

@@ -1,0 +1,111 @@
+//! The file of a second record on this machine, best on another disk than the database. A line is appended to it for each request that
+//! the office accepts.
+//!
+//! Nothing is known about what a disk really keeps; the contracts of `desk` say what is promised if it keeps what was flushed.
+
+ghost use Rattle.std.specs.Prelude.{None, ⊤};
+
+use desk::DurableSink;
+use std::fs::{self, File, OpenOptions};
+use std::io::{self, ErrorKind, Read, Seek, SeekFrom, Write};
+use std::os::unix::fs::MetadataExt;
+use streams::Broken;
+
+/// The permission bits that let the group and others write to a file.
+const WRITING_BY_OTHERS: u32 = 0o022;
+
+/// The reason why a file can't be used as a second record.
+#[derive(Clone, Copy, Debug, PartialEq, Eq, Drop)]
+pub enum SecondFault {
+    /// There is no such file.
+    Missing,
+    /// The file can't be read and written, or isn't a regular one.
+    Unusable,
+    /// Others than its owner may write to the file.
+    Writable,
+    /// The last line of the file was cut by a stop.
+    Cut,
+}
+
+impl SecondFault {
+    /// Returns what is wrong with the file, and what to do.
+    pub fn text(self) -> &'static str {
+        match self {
+            SecondFault::Missing => "there is no such file; the order journal prints one",
+            SecondFault::Unusable => "it can't be read and written",
+            SecondFault::Writable => "others than its owner may write to it",
+            SecondFault::Cut => {
+                "its last line was cut by a stop; begin a new file with the order journal"
+            }
+        }
+    }
+}
+
+/// Returns why a call for a file failed.
+fn fault_of(error: &io::Error) -> SecondFault {
+    match error.kind() {
+        ErrorKind::NotFound => SecondFault::Missing,
+        _ => SecondFault::Unusable,
+    }
+}
+
+/// Returns whether a file that isn't empty ends with something other than a newline.
+fn is_cut(file: &mut File) -> io::Result<bool> {
+    if file.metadata()?.len() == 0 {
+        return Ok(false);
+    }
+    let mut byte = [0];
+    file.seek(SeekFrom::End(-1))?;
+    file.read_exact(&mut byte)?;
+    Ok(byte[0] != b'\n')
+}
+
+/// The file of a second record, opened for appending. Nothing is known about its bytes.
+#[derive(Drop)]
+pub struct SecondFile {
+    file: File,
+}
+
+impl SecondFile {
+    /// Opens an existing file, to which only its owner may write, and whose last line is whole. Doesn't open pipes and devices, because
+    /// opening them may block.
+    pub fn open(rt: &HostRuntime, path: &str) -> Result<SecondFile, SecondFault> {
+        let found = fs::metadata(rt, path).map_err(|error| fault_of(&error))?;
+        if !found.is_file() {
+            return Err(SecondFault::Unusable);
+        }
+        if found.mode() & WRITING_BY_OTHERS != 0 {
+            return Err(SecondFault::Writable);
+        }
+        let mut file = OpenOptions::new()
+            .read(true)
+            .append(true)
+            .open(rt, path)
+            .map_err(|error| fault_of(&error))?;
+        match is_cut(&mut file) {
+            Ok(false) => Ok(SecondFile { file }),
+            Ok(true) => Err(SecondFault::Cut),
+            Err(error) => Err(fault_of(&error)),
+        }
+    }
+}
+
+impl DurableSink for SecondFile {
+    ghost kept = { λ _. None };
+
+    ghost broken = { λ _. ⊤ };
+
+    fn append(&mut self, bytes: &[u8]) -> Result<(), Broken> {
+        match self.file.write_all(bytes) {
+            Ok(()) => Ok(()),
+            Err(_) => Err(Broken),
+        }
+    }
+
+    fn flush(&mut self) -> Result<(), Broken> {
+        match self.file.sync_data() {
+            Ok(()) => Ok(()),
+            Err(_) => Err(Broken),
+        }
+    }
+}

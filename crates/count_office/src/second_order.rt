@@ -1,0 +1,110 @@
+//! An order that is performed alone, on an office that has a second record: each request that the office accepts is appended to the
+//! record's file, and flushed, before its reply is printed.
+
+ghost use Rattle.std.specs.Prelude.{◌≡◌, ◌-◌, ◌^◌, ◌<◌};
+ghost use Rattle.sqlite.specs.Held.{state};
+ghost use Rattle.tables.specs.Reading.{OnlyReads};
+ghost use Rattle.count_office.specs.Done.{IsDoneRecorded};
+
+use crate::notices::{tell_second_failed, tell_second_unusable};
+use crate::order_files::LocalFolder;
+use crate::second_file::{SecondFault, SecondFile};
+use crate::seconds::second;
+use desk::perform::perform_recorded;
+use desk::{Failure, ScriptRecord, Task, tell_failure};
+use sqlite::{Alter, Connection};
+use std::time::{SystemTime, UNIX_EPOCH};
+use streams::{Counted, Sink};
+
+/// A task, the files that it names, and the path of the second record.
+#[derive(Clone, Copy)]
+pub struct RecordedTask<'a> {
+    pub paths: LocalFolder<'a>,
+    pub task: &'a Task<'a>,
+    pub second: &'a str,
+}
+
+/// Returns the comment for an order that is given now: the time of day in UTC; empty if the clock fails.
+fn comment_now(rt: &HostRuntime) -> String {
+    let since = match SystemTime::now(rt) {
+        Ok(now) => now.duration_since(UNIX_EPOCH),
+        Err(_) => return String::new(rt.alloc()),
+    };
+    let Ok(since) = since else {
+        return String::new(rt.alloc());
+    };
+    let seconds = since.as_secs() % 86_400;
+    let (hour, minute, second) = (seconds / 3_600, seconds / 60 % 60, seconds % 60);
+    let text = format!(in rt.alloc(); "# {hour:02}:{minute:02}:{second:02} UTC, an order");
+    text.unwrap_or(String::new(rt.alloc()))
+}
+
+/// Prints fault 112, followed by a line that says why the file of a second record can't be used. Returns the status.
+fn refuse_second<E: Sink>(rt: &HostRuntime, path: &str, why: SecondFault, err: &mut E) -> u8
+    requires { E.failed err.old < 2 ^ 64 - 1 }
+{
+    let status = tell_failure(Failure::SecondRecord, err);
+    tell_second_unusable(rt, path, why);
+    status
+}
+
+/// Opens the file of a second record, if it holds the same as the office, which is only read. Otherwise prints how they differ, or why
+/// the file can't be used, and returns the status.
+fn open_record<S: Alter, E: Sink>(
+    paths: LocalFolder<'_>,
+    path: &str,
+    conn: Connection<S>,
+    err: &mut E,
+) -> (Result<SecondFile, u8>, Connection<S>)
+    requires { E.failed err.old < 2 ^ 64 - 1 }
+    ensures reads { OnlyReads (state S.Store conn) (state S.Store result.1) }
+{
+    let file = match SecondFile::open(paths.rt, path) {
+        Ok(file) => file,
+        Err(why) => return (Err(refuse_second(paths.rt, path, why, err)), conn),
+    };
+    let mut unprinted = Vec::new(paths.rt.alloc());
+    let (status, conn) = second(paths, conn, path, &mut Counted::new(&mut unprinted), err);
+    if status == 0 {
+        (Ok(file), conn)
+    } else {
+        (Err(status), conn)
+    }
+}
+
+/// Performs a task on an open connection to an office with a second record, prints the outcome, and returns the status.
+///
+/// If the record's file can't be used, or doesn't hold the same as the office, nothing is done, and this is printed. If recording an
+/// accepted request fails, fault 112 is printed in place of its reply, and nothing more is done.
+pub fn perform_with_record<S: Alter, O: Sink, E: Sink>(
+    asked: RecordedTask<'_>,
+    conn: Connection<S>,
+    out: &mut O,
+    err: &mut E,
+) -> (u8, Connection<S>)
+    requires out { O.failed out.old < 2 ^ 64 - 1 }
+    requires err { E.failed err.old < 2 ^ 64 - 1 }
+    ensures { IsDoneRecorded (state S.Store) asked.entry.task.now result.0 conn result.1 }
+{
+    let rt = asked.paths.rt;
+    let (opened, conn) = open_record(asked.paths, asked.second, conn, err);
+    let file = match opened {
+        Ok(file) => file,
+        Err(status) => return (status, conn),
+    };
+    let mut record = ScriptRecord::new(rt.alloc(), file);
+    record.set_comment(comment_now(rt));
+    let (status, conn) = perform_recorded(
+        rt.alloc(),
+        asked.task,
+        conn,
+        &asked.paths,
+        &mut record,
+        out,
+        err,
+    );
+    if let Some(fault) = record.fault() {
+        tell_second_failed(rt, asked.second, fault);
+    }
+    (status, conn)
+}

@@ -1,0 +1,61 @@
+#!/usr/bin/env bash
+# Plays an evening whose disk is lost. Its journal is on a stick, as a second record, whose last line was cut: a new office is made from
+# it, and compared with it. Then records that lack a request, that have one more, of another office, and that aren't records.
+# shellcheck source=examples/play.bash
+source "$(dirname "$(readlink -f "${BASH_SOURCE[0]}")")/play.bash"
+
+# Keeps the journal of an office on the stick, without its comments: one line for each request.
+keep_record() {
+    (cd "$folder" && "$office" "$1" journal) | grep -v -e '^#' -e '^$' >"$folder/stick/$2"
+}
+
+mkdir "$folder/stick"
+printf '%s\n' ward,candidate,name 7,1,Ann 7,2,Bob 7,3,Cy >"$folder/names.csv"
+
+{
+    play town.db init
+    play town.db ward 7 1 Harbour --id w1
+    play town.db import-candidates names.csv --id c
+    play town.db close 7 --id n1
+    play town.db batch 12 7 2 4 9 --id b1
+    play town.db key 4 12 1 1,2, 1,,2 --id k1
+    keep_record town.db early.script
+    play town.db second stick/early.script
+    # the record lacks what was accepted since
+    play town.db key 9 12 1 1,2, 1,,2 --id k7
+    play town.db second stick/early.script
+    play town.db seal 7 --id s1
+    play town.db second stick/early.script
+    play town.db advance 7 --id a1
+    play town.db declare 7 --id d1
+    keep_record town.db town.script
+
+    # the disk is gone; the last line of the record was cut in the middle
+    rm "$folder"/town.db*
+    head -c -9 "$folder/stick/town.script" >"$folder/stick/cut.script"
+    tail -n 1 "$folder/stick/cut.script"
+    echo
+    play new.db init
+    play new.db replay stick/cut.script
+    play new.db replay stick/cut.script --cut
+    play new.db second stick/cut.script
+    # the whole record has the request that was cut
+    play new.db second stick/town.script
+    play new.db declare 7 --id d1
+    play new.db second stick/town.script
+
+    # nothing was cut: there is no note
+    play same.db init
+    play same.db replay stick/town.script --cut
+    play same.db second stick/town.script
+
+    # of another office, no record, and no file
+    play other.db init
+    play other.db second stick/town.script
+    echo 'import-candidates names.csv --id c' >"$folder/stick/import.script"
+    play new.db second stick/import.script
+    printf '%s\n' 'close 7 --id n1' wards >"$folder/stick/wards.script"
+    play new.db second stick/wards.script
+    play new.db second stick/missing.script
+} >"$folder/played"
+compare disk-gone
