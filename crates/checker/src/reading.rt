@@ -6,15 +6,17 @@ ghost use Rattle.checker.specs.ForeignComments.{behind_number_sign};
 ghost use Rattle.checker.specs.Outcomes.{outcome, told_as};
 ghost use Rattle.checker.specs.Reading.{at_end, before_comment, is_end_line, is_withdrawn_line, nothing_told, on_line, read};
 ghost use Rattle.checker.specs.Reading.{words_before_comment, with_content_at, with_line, with_name_line, with_papers_line, with_size_line, with_withdrawn_line};
-ghost use Rattle.checker.specs.Values.{IsFlawOf, reading_of};
+ghost use Rattle.checker.specs.Values.{IsFlawOf, ballots_of, reading_of};
 
-use crate::file_content::{CandidateNames, Comments, NextLine, PaperTotals, Reader};
+use crate::file_content::{
+    CandidateNames, Comments, NextLine, PaperTotals, Reader, WardBallots,
+};
 use crate::foreign_comments::skip_foreign;
 use crate::names::name_in;
 use crate::problem::{BallotsFlaw, Problem};
 use crate::ranks::is_zero;
+use crate::tally::Tally;
 use crate::tokens::{LineKind, Separator, behind_byte_order_mark, kind_of, pieces_of};
-use count::Bundles;
 use paper::Columns;
 use std::alloc::{AllocError, Global};
 
@@ -77,7 +79,7 @@ impl Reader {
                 highest: 0,
                 seats: 1,
                 withdrawn: Columns::empty(),
-                bundles: Bundles::new(alloc),
+                bundles: Tally::new(alloc),
             },
             names: CandidateNames {
                 names: Vec::new(alloc),
@@ -207,6 +209,21 @@ impl Reader {
         }
     }
 
+    /// Returns the ballots of a file that has been read to its end.
+    pub(crate) fn into_ballots(self) -> Result<WardBallots, AllocError>
+        ensures { IfOk result (λ ballots. ballots_of ballots ≡ reading_of self) }
+    {
+        Ok(WardBallots {
+            place: self.place,
+            highest: self.papers.highest,
+            seats: self.papers.seats,
+            withdrawn: self.papers.withdrawn,
+            bundles: self.papers.bundles.into_bundles()?,
+            names: self.names,
+            comments: self.comments,
+        })
+    }
+
     /// Checks that the file may end here. The error is the flaw.
     fn at_end(&self) -> Result<(), BallotsFlaw>
         ensures { outcome result (reading_of self.now) ≡ at_end self.now.place (reading_of self.now) }
@@ -220,9 +237,9 @@ impl Reader {
     }
 }
 
-/// Reads a file. The problem is the first of its lines that isn't understood, or a failed allocation.
+/// Reads the lines of a file. The problem is the first of them that isn't understood, or a failed allocation.
 // Each line is read where it is in the file: a list of a million lines would take as much memory as the file.
-pub(crate) fn read(alloc: Global, bytes: &[u8]) -> Result<Reader, Problem>
+fn read_lines(alloc: Global, bytes: &[u8]) -> Result<Reader, Problem>
     ensures ok { IfOk result (λ reader. read bytes.now ≡ Ok (reading_of reader)) }
     ensures err { IfErr result (λ problem. IsFlawOf (read bytes.now) problem) }
 {
@@ -249,5 +266,20 @@ pub(crate) fn read(alloc: Global, bytes: &[u8]) -> Result<Reader, Problem>
             line: lines + 1,
             flaw,
         }),
+    }
+}
+
+/// Reads a file. The problem is the first of its lines that isn't understood, or a failed allocation.
+pub(crate) fn read(alloc: Global, bytes: &[u8]) -> Result<WardBallots, Problem>
+    ensures ok { IfOk result (λ ballots. read bytes.now ≡ Ok (ballots_of ballots)) }
+    ensures err { IfErr result (λ problem. IsFlawOf (read bytes.now) problem) }
+{
+    let reader = match read_lines(alloc, bytes) {
+        Ok(reader) => reader,
+        Err(problem) => return Err(problem),
+    };
+    match reader.into_ballots() {
+        Ok(ballots) => Ok(ballots),
+        Err(_) => Err(Problem::Memory),
     }
 }

@@ -13,18 +13,19 @@ ghost use Rattle.checker.specs.Records.{after_comma, as_read, before_comma, noth
 ghost use Rattle.checker.specs.Records.{with_judged, with_keyed, with_line, with_marks, with_papers, with_preferences, with_ranks, with_record, with_rejected, without_return};
 ghost use Rattle.checker.specs.Reading.{on_line};
 ghost use Rattle.checker.specs.Tokens.{lines_of};
-ghost use Rattle.checker.specs.Values.{IsFlawOf, reading_of, told_of};
+ghost use Rattle.checker.specs.Values.{IsFlawOf, ballots_of, reading_of, told_of};
 
 use crate::file_content::{
     CandidateNames, Comments, Header, NextLine, PaperTotals, Reader, RecordColumns, Records,
+    WardBallots,
 };
 use crate::papers::papers_in;
 use crate::problem::{BallotsFlaw, Problem};
 use crate::rank_fields::ranked_in;
 use crate::records_header::header_in;
 use crate::records_ward::RecordsWard;
+use crate::tally::Tally;
 use crate::tokens::{LineKind, behind_byte_order_mark, kind_of};
-use count::Bundles;
 use paper::{Columns, Keyed, MarkFault, Marked, Marks, Rejection, judge};
 use std::alloc::{AllocError, Global};
 
@@ -325,7 +326,7 @@ fn papers_for(alloc: Global, seats: u8, highest: u8) -> PaperTotals
         highest,
         seats,
         withdrawn: Columns::empty(),
-        bundles: Bundles::new(alloc),
+        bundles: Tally::new(alloc),
     }
 }
 
@@ -368,16 +369,19 @@ pub(crate) fn read_records(
     alloc: Global,
     ward: &RecordsWard,
     bytes: &[u8],
-) -> Result<Reader, Problem>
-    ensures ok { IfOk result (λ reader. read_records (ward_told ward.now) bytes.now ≡ Ok (reading_of reader)) }
+) -> Result<WardBallots, Problem>
+    ensures ok { IfOk result (λ ballots. read_records (ward_told ward.now) bytes.now ≡ Ok (ballots_of ballots)) }
     ensures err { IfErr result (λ problem. IsFlawOf (read_records (ward_told ward.now) bytes.now) problem) }
 {
     let records = match records_in(alloc, ward, bytes) {
         Ok(records) => records,
         Err(problem) => return Err(problem),
     };
-    match String::from_str(alloc, ward.name) {
-        Ok(name) => Ok(records.into_reader(alloc, name)),
+    let Ok(name) = String::from_str(alloc, ward.name) else {
+        return Err(Problem::Memory);
+    };
+    match records.into_reader(alloc, name).into_ballots() {
+        Ok(ballots) => Ok(ballots),
         Err(_) => Err(Problem::Memory),
     }
 }

@@ -1,4 +1,4 @@
--- Proof that `read` meets its contract.
+-- Proof that `read_lines` meets its contract.
 use Rattle.std.proofs.Common.{◌≡◌, ◌∙◌, ◌+◌, ◌-◌, ◌≤◌, [], ◌∷◌, length, get_or, take, drop, refl, sym, ap, subst, arith}
 use Rattle.checker.specs.Reading.{nothing_told, read_from, with_line}
 use Rattle.checker.specs.Tokens.{pieces_of}
@@ -7,7 +7,7 @@ use Rattle.checker.specs.declared.tokens.Separator.TheVariants.{LineFeed}
 use Rattle.std.proofs.lemmas.Bool.{ne_eqb}
 use Rattle.checker.proofs.TokenLemmas.{goes_on, last_line, line_ends}
 use Rattle.checker.proofs.FlawLemmas.{flaw_on}
-use Rattle.checker.proofs.reading.read.Goals as goal
+use Rattle.checker.proofs.reading.read_lines.Goals as goal
 
 pub loop-i-preserved-then-text-i-ne10 : goal.loop-i-preserved-then-text-i-ne10
 loop-i-preserved-then-text-i-ne10 c =

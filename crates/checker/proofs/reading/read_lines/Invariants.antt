@@ -1,10 +1,10 @@
--- The invariant of the loop in `read`: the remaining lines, after those read so far, determine the content of all of them.
+-- The invariant of the loop in `read_lines`: the remaining lines, after those read so far, determine the content of all of them.
 use Rattle.std.proofs.Common.{◌≡◌, ◌≤◌, ◌-◌, [], take, drop}
 use Rattle.checker.specs.Reading.{nothing_told, read_from}
 use Rattle.checker.specs.Tokens.{pieces_of}
 use Rattle.checker.specs.Values.{reading_of}
 use Rattle.checker.specs.declared.tokens.Separator.TheVariants.{LineFeed}
-use Rattle.checker.proofs.reading.read.Given as goal
+use Rattle.checker.proofs.reading.read_lines.Given as goal
 
 abbrev pub invariant-loop-i : goal.invariant-loop-i
 invariant-loop-i l = record {
