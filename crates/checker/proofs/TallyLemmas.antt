@@ -1,14 +1,11 @@
 -- Papers that are added to bundles: the order in which they are added makes no difference.
-use Rattle.std.proofs.Common.{◌≡◌, ◌∙◌, ℕ, ◌+◌, ◌<◌, ◌≤◌, List, [], ◌∷◌, ◌++◌, length, replicate, refl, sym, ap, subst, append_assoc, length-append, arith}
+use Rattle.std.proofs.Common.{◌≡◌, ◌∙◌, ℕ, ◌+◌, ◌≤◌, List, [], ◌∷◌, ◌++◌, length, replicate, refl, sym, ap, subst, append_assoc, length-append, arith}
 use Rattle.std.specs.Prelude.{Option, Some, None, option_map, slice_get, slice_set, zero, suc}
 use Rattle.std.specs.List.{AllByRecursion}
 use Rattle.std.specs.List.Sorted.{IsPermutation}
-use Rattle.std.specs.Ordering.{match_ordering}
-use Rattle.std.specs.declared.cmp.Ordering.{Ordering}
-use Rattle.std.specs.declared.cmp.Ordering.TheVariants.{Less, Equal, Greater}
 use Rattle.std.proofs.Math.ListN.{set}
 use Rattle.std.proofs.lemmas.List.{length-replicate, replicate-append-replicate}
-use Rattle.std.proofs.lemmas.List.Sorted.{IsPermutation-refl, IsPermutation-sym, IsPermutation-trans, IsPermutation-append_left, IsPermutation-append_right, IsPermutation-append_comm}
+use Rattle.std.proofs.lemmas.List.Sorted.{IsPermutation-sym, IsPermutation-trans, IsPermutation-append_left, IsPermutation-append_right, IsPermutation-append_comm}
 use Rattle.count.specs.Bundles.{Bundle, papers_of, with_papers, IsBundle, AreBundles}
 use Rattle.count.proofs.BundleLemmas.{bundles-with_papers, length-with_papers, papers-with_papers}
 use Rattle.count.proofs.BundleLaws.{same-bundles}
@@ -51,8 +48,8 @@ one_added list m n bs some is all =
     let once = with_papers bs list (m + n) in
     let twice = with_papers (with_papers bs list m) list n in
     let joined : replicate n list ++ (replicate m list ++ papers_of bs) ≡ replicate (m + n) list ++ papers_of bs =
-        sym (append_assoc (replicate n list) (replicate m list) (papers_of bs))
-        ∙ ap (λ l. l ++ papers_of bs) (replicate-append-replicate n m list ∙ ap (λ k. replicate k list) (omega arith)) in
+    sym (append_assoc (replicate n list) (replicate m list) (papers_of bs))
+    ∙ ap (λ l. l ++ papers_of bs) (replicate-append-replicate n m list ∙ ap (λ k. replicate k list) (omega arith)) in
     same-bundles once twice
     (bundles-with_papers list (m + n) bs (omega (arith, some), is.1, is.2) all)
     (bundles-with_papers list n (with_papers bs list m) is (bundles-with_papers list m bs (some, is.1, is.2) all))

@@ -8,9 +8,7 @@ ghost use Rattle.checker.specs.Reading.{at_end, before_comment, is_end_line, is_
 ghost use Rattle.checker.specs.Reading.{words_before_comment, with_content_at, with_line, with_name_line, with_papers_line, with_size_line, with_withdrawn_line};
 ghost use Rattle.checker.specs.Values.{IsFlawOf, ballots_of, reading_of};
 
-use crate::file_content::{
-    CandidateNames, Comments, NextLine, PaperTotals, Reader, WardBallots,
-};
+use crate::file_content::{CandidateNames, Comments, NextLine, PaperTotals, Reader, WardBallots};
 use crate::foreign_comments::skip_foreign;
 use crate::names::name_in;
 use crate::problem::{BallotsFlaw, Problem};

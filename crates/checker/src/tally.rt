@@ -35,7 +35,7 @@ pub(crate) struct Tally {
     bundles: Bundles,
     /// The other papers: lists, each with a number of papers.
     recent: Vec<(Prefs, u32)>,
-    /// Where lists probably are in `recent`, by their hashes. A wrong slot costs time, and changes nothing.
+    /// The probable positions of lists in `recent`, by their hashes. A wrong one costs time, and changes nothing.
     slots: Vec<u32>,
     /// The number of all papers.
     papers: u32,
@@ -108,11 +108,7 @@ fn remember(slots: &mut [u32], hash: u64, i: usize) {
 }
 
 /// Returns so many slots, with the positions of the given lists.
-fn slots_for(
-    alloc: Global,
-    recent: &[(Prefs, u32)],
-    count: usize,
-) -> Result<Vec<u32>, AllocError> {
+fn slots_for(alloc: Global, recent: &[(Prefs, u32)], count: usize) -> Result<Vec<u32>, AllocError> {
     let mut slots = Vec::new(alloc);
     slots.resize(count, FREE)?;
     for (i, bundle) in recent.iter().enumerate() {
@@ -130,7 +126,11 @@ fn with_room(
     if slots.len() / 2 > recent.len() {
         return Ok(slots);
     }
-    slots_for(alloc, recent, slots.len().saturating_mul(2).max(FIRST_SLOTS))
+    slots_for(
+        alloc,
+        recent,
+        slots.len().saturating_mul(2).max(FIRST_SLOTS),
+    )
 }
 
 /// Adds papers to the list at the given position.

@@ -1,5 +1,5 @@
 -- Proof that `found` meets its contract.
-use Rattle.std.proofs.Common.{◌≡◌, ◌∙◌, ap, get_or, sym}
+use Rattle.std.proofs.Common.{◌∙◌, ap, get_or, sym}
 use Rattle.std.specs.Prelude.{Some, option_map}
 use Rattle.std.proofs.lemmas.Option.{slice_get-get_or}
 use Rattle.checker.proofs.NumberLaws.{pointwise_same}
