@@ -3,9 +3,10 @@
 //! Most papers of a large file have a list that was read before. A hash of the list leads to where it was added. Of a tree, in
 //! contrast, each paper would read several nodes.
 
-ghost use Rattle.std.specs.Prelude.{◌≡◌, ℕ, ◌+◌, ◌≤◌, Some, [], length, option_map, slice_get, slice_set, IfOk, IfSome, OnOk};
+ghost use Rattle.std.specs.Prelude.{◌≡◌, ◌+◌, ◌<◌, ◌≤◌, Some, [], length, option_map, slice_get, slice_set, IfOk, IfSome, OnOk};
 ghost use Rattle.std.specs.List.{AllByRecursion};
-ghost use Rattle.count.specs.Bundles.{AreBundles, IsBundle, papers_of, with_papers};
+ghost use Rattle.count.specs.Bundles.{Bundle, AreBundles, IsBundle, papers_of, with_papers};
+ghost use Rattle.paper.specs.Ranking.{IsRanking};
 ghost use Rattle.votes.specs.Units.{max_papers};
 ghost use Rattle.checker.specs.Tallies.{settled};
 
@@ -64,13 +65,22 @@ fn hash_of(list: &[u8]) -> u64 {
     hash
 }
 
+/// Returns the preferences in a list.
+fn prefs_of(list: &[u8]) -> Prefs
+    requires named { 1 ≤ length list.now }
+    requires ranking { IsRanking list.now }
+    ensures { result ≡ list.now }
+{
+    Prefs::from_slice(list).unwrap()
+}
+
 /// Returns the slot for a hash that follows the first one by the given number of steps; the number of slots is a power of two.
 fn slot_at(hash: u64, step: usize, slots: usize) -> usize {
     ((hash >> 32) as usize).wrapping_add(step) & slots.wrapping_sub(1)
 }
 
 /// Returns the position of a list, if a slot leads to it.
-fn found(slots: &[u32], recent: &[(Prefs, u32)], hash: u64, list: &Prefs) -> Option<usize>
+fn found(slots: &[u32], recent: &[(Prefs, u32)], hash: u64, list: &[u8]) -> Option<usize>
     ensures { IfSome result (λ i. option_map (λ b. b.0) (slice_get recent.now i) ≡ Some list.now) }
 {
     for step in 0..PROBES {
@@ -81,7 +91,7 @@ fn found(slots: &[u32], recent: &[(Prefs, u32)], hash: u64, list: &Prefs) -> Opt
         if i >= recent.len() {
             return None;
         }
-        if recent[i].0 == *list {
+        if recent[i].0.as_slice() == list {
             return Some(i);
         }
     }
@@ -134,13 +144,13 @@ fn with_room(
 }
 
 /// Adds papers to the list at the given position.
-fn add_at(recent: &mut Vec<(Prefs, u32)>, i: usize, list: Prefs, papers: u32)
-    requires at { option_map (λ b. b.0) (slice_get recent.old.items i) ≡ Some list }
-    requires few { (n : ℕ) → slice_get recent.old.items i ≡ Some (list, n) → n + papers ≤ max_papers }
-    ensures { (n : ℕ) → slice_get recent.old.items i ≡ Some (list, n) → recent.new.items ≡ slice_set recent.old.items i (list, n + papers) }
+fn add_at(recent: &mut Vec<(Prefs, u32)>, i: usize, papers: u32)
+    requires within { i < length recent.old.items }
+    requires few { (b : Bundle) → slice_get recent.old.items i ≡ Some b → b.1 + papers ≤ max_papers }
+    ensures { (b : Bundle) → slice_get recent.old.items i ≡ Some b → recent.new.items ≡ slice_set recent.old.items i (b.0, b.1 + papers) }
 {
-    let papers = recent[i].1 + papers;
-    recent[i] = (list, papers);
+    let (list, own) = recent[i];
+    recent[i] = (list, own + papers);
 }
 
 /// Adds lists with their papers to bundles.
@@ -188,48 +198,56 @@ impl Tally {
         settled(self.bundles, &self.recent)
     }
 
-    /// Returns the same papers, with all lists in the tree.
+    /// Returns the same papers, with all lists in the tree. The memory of the table is used again.
     fn into_tree(self) -> Result<Tally, AllocError>
         ensures { IfOk result (λ tally. tally ≡ self) }
     {
-        let alloc = self.alloc;
-        let papers = self.papers;
-        let bundles = self.into_bundles()?;
+        let mut recent = self.recent;
+        let mut slots = self.slots;
+        let bundles = settled(self.bundles, &recent)?;
+        // called for its postconditions
         let _ = bundles.len();
+        recent.clear();
+        let count = slots.len();
+        slots.clear();
+        slots.resize(count, FREE)?;
         Ok(Tally {
-            alloc,
+            alloc: self.alloc,
             bundles,
-            recent: Vec::new(alloc),
-            slots: Vec::new(alloc),
-            papers,
+            recent,
+            slots,
+            papers: self.papers,
         })
     }
 
     /// Adds papers with a list that no slot leads to.
-    fn add_list(&mut self, hash: u64, list: Prefs, papers: u32) -> Result<(), AllocError>
+    fn add_list(&mut self, hash: u64, list: &[u8], papers: u32) -> Result<(), AllocError>
         requires some { 1 ≤ papers }
         requires few { length (papers_of self.old) + papers ≤ max_papers }
-        ensures { OnOk result (self.new ≡ with_papers self.old list papers) }
+        requires named { 1 ≤ length list.now }
+        requires ranking { IsRanking list.now }
+        ensures { OnOk result (self.new ≡ with_papers self.old list.now papers) }
     {
-        // called for its postconditions: they tell the proof that the list is a nonempty ranking
-        let _ = list.first();
+        let prefs = prefs_of(list);
         let slots = mem::replace(&mut self.slots, Vec::new(self.alloc));
         self.slots = with_room(self.alloc, slots, &self.recent)?;
         remember(&mut self.slots, hash, self.recent.len());
-        self.recent.push((list, papers))?;
+        self.recent.push((prefs, papers))?;
         self.papers += papers;
         Ok(())
     }
 
-    /// Adds one or more papers with the same list; the total must not exceed `MAX_PAPERS`.
-    pub(crate) fn add_papers(&mut self, list: Prefs, papers: u32) -> Result<(), AllocError>
+    /// Adds one or more papers with the same list, which ranks at least one candidate; the total must not exceed `MAX_PAPERS`.
+    pub(crate) fn add_papers(&mut self, list: &[u8], papers: u32) -> Result<(), AllocError>
         requires some { 1 ≤ papers }
         requires few { length (papers_of self.old) + papers ≤ max_papers }
-        ensures { OnOk result (self.new ≡ with_papers self.old list papers) }
+        requires named { 1 ≤ length list.now }
+        requires ranking { IsRanking list.now }
+        ensures { OnOk result (self.new ≡ with_papers self.old list.now papers) }
     {
-        let hash = hash_of(list.as_slice());
-        if let Some(i) = found(&self.slots, &self.recent, hash, &list) {
-            add_at(&mut self.recent, i, list, papers);
+        let hash = hash_of(list);
+        if let Some(i) = found(&self.slots, &self.recent, hash, list) {
+            add_at(&mut self.recent, i, papers);
             self.papers += papers;
             return Ok(());
         }
