@@ -88,7 +88,7 @@ public_in serving = option_map (λ title. public_with title.now) serving.public
 
 -- the settings, given an origin, a gate, what is shown in public, a file, and whether that file is permanently known to be whole
 abbrev pub settings_with : Option (List ℕ) → Option GateEntry → Option PublicEntry → FileNumbers → Option Bool → ServerSettingsEntry
-settings_with origin gate public file whole = record { clients = record { origin = origin; gate = gate; public = public }; file = file; whole = whole }
+settings_with origin gate public file whole = record { clients = record { origin = origin; gate = gate; public = public }; file = file; whole = whole; recorded = false }
 
 -- the settings of the server
 abbrev pub server_settings_of : ServeSettings → Option Bool → ServerSettingsEntry

@@ -87,7 +87,7 @@ use path_state::PathState;
 use remarks::perform_and_remark;
 use screen::Screen;
 use second_order::{RecordedTask, perform_with_record};
-use second_words::{SplitWords, split_words};
+use second_words::split_words;
 use seconds::second;
 use serving::{Serving, serve};
 use sqlite::{Alter, Connection, ErrorCode, FileStore, Files};
@@ -311,10 +311,12 @@ fn close<D: Disk + Drop>(conn: Connection<FileStore<D>>) -> Option<Files<D>>
     }
 }
 
-/// Performs an order on the database that the first word names, and returns the status.
-fn perform_at_path<'a, O: Sink, E: Sink>(
+/// Performs an order on the database that the first word names, and returns the status. The path of the second record is empty if there
+/// is none.
+fn perform_at_path<O: Sink, E: Sink>(
     rt: &HostRuntime,
-    given: &'a SplitWords<'a>,
+    words: &[&str],
+    second: &str,
     order: &Order<'_>,
     out: &mut O,
     err: &mut E,
@@ -326,7 +328,6 @@ fn perform_at_path<'a, O: Sink, E: Sink>(
         has_moved: Cell::new(false),
         listeners: Cell::new(None),
     };
-    let words = given.words.as_slice();
     let path = match words.first() {
         Some(path) => *path,
         None => "",
@@ -336,7 +337,7 @@ fn perform_at_path<'a, O: Sink, E: Sink>(
         path,
         words,
         order,
-        second: given.second.unwrap_or(""),
+        second,
         is_successor: false,
         succession: &succession,
     };
@@ -355,25 +356,27 @@ fn refuse_second<O: Sink, E: Sink>(alloc: Global, out: &mut O, err: &mut E) -> u
     requires out { O.failed out.old < 2 ^ 64 - 1 }
     requires err { E.failed err.old < 2 ^ 64 - 1 }
 {
-    let text = "error: --second FILE goes with an order that changes an office\n";
+    let text = "error: --second takes a FILE, and goes with an order that changes an office\n";
     match String::from_str(alloc, text) {
         Ok(text) => tell_words(&WordsFault::Words { text, status: 2 }, out, err),
         Err(_) => tell_words(&WordsFault::Memory, out, err),
     }
 }
 
-/// Does what the given words, starting with DB, ask for, and returns the status. Making codes and printing slips need no database.
+/// Does what the given words, starting with DB, ask for, and returns the status. The path of the second record is empty if there is none.
+/// Making codes and printing slips need no database.
 fn follow_split<O: Sink, E: Sink>(
     rt: &HostRuntime,
-    given: &SplitWords<'_>,
+    words: &[&str],
+    second: &str,
     out: &mut O,
     err: &mut E,
 ) -> u8
     requires out { O.failed out.old < 2 ^ 64 - 1 }
     requires err { E.failed err.old < 2 ^ 64 - 1 }
 {
-    match order(rt.alloc(), &given.words) {
-        Ok(order) if given.second.is_some() && !takes_second(&order) => {
+    match order(rt.alloc(), &*words) {
+        Ok(order) if !second.is_empty() && !takes_second(&order) => {
             refuse_second(rt.alloc(), out, err)
         }
         Ok(
@@ -391,7 +394,7 @@ fn follow_split<O: Sink, E: Sink>(
             make_codes_file(rt, asked, out, err)
         }
         Ok(Order::Slips { path, address }) => print_slips(rt, path, address, out, err),
-        Ok(order) => perform_at_path(rt, given, &order, out, err),
+        Ok(order) => perform_at_path(rt, words, second, &order, out, err),
         Err(fault) => tell_words(&fault, out, err),
     }
 }
@@ -402,9 +405,14 @@ fn follow_words<O: Sink, E: Sink>(rt: &HostRuntime, words: &[&str], out: &mut O,
     requires out { O.failed out.old < 2 ^ 64 - 1 }
     requires err { E.failed err.old < 2 ^ 64 - 1 }
 {
-    match split_words(rt.alloc(), words) {
-        Ok(given) => follow_split(rt, &given, out, err),
-        Err(_) => tell_words(&WordsFault::Memory, out, err),
+    let Ok(given) = split_words(rt.alloc(), words) else {
+        return tell_words(&WordsFault::Memory, out, err);
+    };
+    match given.second {
+        // no file is named, as with a shell's variable that isn't set
+        Some("") => refuse_second(rt.alloc(), out, err),
+        Some(second) => follow_split(rt, &given.words, second, out, err),
+        None => follow_split(rt, &given.words, "", out, err),
     }
 }
 

@@ -55,7 +55,10 @@ pub fn tell_second_unusable(rt: &HostRuntime, path: &str, why: SecondFault) {
 /// Prints that a request was accepted, but not recorded, and what to do.
 pub fn tell_second_failed(rt: &HostRuntime, path: &str, fault: RecordFault) {
     let mut stderr = rt.stderr();
-    let _ = writeln!(stderr, "{path}: {fault}; begin a new file with the order journal");
+    let _ = writeln!(
+        stderr,
+        "{path}: {fault}; begin a new file with the order journal"
+    );
 }
 
 /// Prints what an order is waiting for, if the error output is a terminal.
