@@ -37,7 +37,7 @@ use Rattle.desk.proofs.OpenLemmas.{after_next}
 use Rattle.desk.specs.Records.{IsAfterAnswered, IsRecordOf, IsRecorded, LeavesRecord, Records}
 use Rattle.desk.proofs.RecordedEnds.{done_recorded, open_done_by}
 use Rattle.server.specs.RecordChanges.{RecordChange, ServedView, change_in, change_of}
-use Rattle.server.specs.ServedOrders.{BeginsUnfailed, IsOrderOutcome, IsFramed, OrderPrints, PrintsAt, folder_of}
+use Rattle.server.specs.ServedOrders.{AgreesWithRecord, IsOrderOutcome, IsFramed, OrderPrints, PrintsAt, folder_of}
 use Rattle.server.specs.ConsoleOrders.{FollowsConsole, IsInResponse, ConsolePrints}
 use Rattle.wire.specs.Gates.{HttpSettingsEntry}
 use Rattle.server.specs.Reads.{AreReadAt, ServedOffice, IsRead, ReadEntry, with_none_kept}
@@ -282,15 +282,15 @@ module _ {S R : Type 0} (state_of : Held S → State) (found : R → Text → Ty
   order_leaves old new (asked.Misread fault) cut page unfailed fails it = none_sent (asked.Misread fault) cut page new.closed (state_of new.held) (it.0, refl, refl) (inl it.1) it.2
 
   -- once the record has failed, no job is carried out, and nothing is sent
-  order_still : (old new : OfficeValue S) (what : ServedOrder) (cut : Cut) (page : Page) → failed before ≡ true → BeginsUnfailed (failed before) what
+  order_still : (old new : OfficeValue S) (what : ServedOrder) (cut : Cut) (page : Page) → failed before ≡ true → AgreesWithRecord (failed before) what
       → IsOrderOutcome (change_of found failed before later) (state_of old.held) new.closed (state_of new.held) folder s what cut page
       → PrintsAt state_of recorded folder s what cut page [] [] × IsReadAt s new.closed (state_of new.held) × (later ≡ before)
-  order_still old new (asked.Do job) cut page was begins it = absurd (true≢false (sym was ∙ begins))
-  order_still old new (asked.Copy path) cut page was begins it = ((it.0, refl, refl), it.1, it.2)
-  order_still old new asked.Journal cut page was begins it = ((it.0, refl, refl), it.1, it.2)
-  order_still old new (asked.Mend mending) cut page was begins it = ((it.0, refl, refl), it.1, it.2)
-  order_still old new (asked.Refused failure) cut page was begins it = ((it.0, refl, refl), inl it.1, it.2)
-  order_still old new (asked.Misread fault) cut page was begins it = ((it.0, refl, refl), inl it.1, it.2)
+  order_still old new (asked.Do job) cut page was agrees it = absurd (true≢false (sym was ∙ agrees))
+  order_still old new (asked.Copy path) cut page was agrees it = ((it.0, refl, refl), it.1, it.2)
+  order_still old new asked.Journal cut page was agrees it = ((it.0, refl, refl), it.1, it.2)
+  order_still old new (asked.Mend mending) cut page was agrees it = ((it.0, refl, refl), it.1, it.2)
+  order_still old new (asked.Refused failure) cut page was agrees it = ((it.0, refl, refl), inl it.1, it.2)
+  order_still old new (asked.Misread fault) cut page was agrees it = ((it.0, refl, refl), inl it.1, it.2)
 
 -- ---- one request after another
 
@@ -681,7 +681,7 @@ module _ {S R : Type 0} (settings : ServerSettingsEntry) (view : ServedView S R)
       let had = it.follows in
       let told = had.tells in
       let (so, reads, same) = order_still view.state_of view.found view.failed old.kept.recorder new.kept.recorder settings.recorded (folder_of had.files) s old.office new.office had.asked
-      told.cut told.page failed had.begins (told.does clean is_open s at) in (
+      told.cut told.page failed had.agrees (told.does clean is_open s at) in (
         same,
         read_still s new (IsAnsweredAt Clients view.state_of settings s exchange []) (IsStoppedAt Clients view.state_of settings s exchange [] []) (console_tells s exchange old new it [] [] so)
             (λ prints. inr ([], prints)) (λ prints. inr prints) emptied reads,
@@ -707,7 +707,7 @@ module _ {S R : Type 0} (settings : ServerSettingsEntry) (view : ServedView S R)
   turn_still Orders s exchange old new (it, emptied, limit) failed clean is_open at right =
       let told = it.tells in
       let (so, reads, same) = order_still view.state_of view.found view.failed old.kept.recorder new.kept.recorder settings.recorded (folder_of it.files) s old.office new.office it.asked
-      told.cut told.page failed it.begins (told.does clean is_open s at) in
+      told.cut told.page failed it.agrees (told.does clean is_open s at) in
       let prints : OrderPrints view.state_of settings s exchange.got exchange.answer [] [] =
       record { files = it.files; asked = it.asked; is = it.is; cut = told.cut; page = told.page; told = told.told; tells = so } in (
         same,

@@ -1,5 +1,5 @@
 -- How an order is processed, step by step.
-use Rattle.std.proofs.Common.{◌≡◌, ◌∙◌, ◌⊎◌, ◌∷◌, true, false, true≢false, ℕ, List, [], None, Bor, Option, Some, ap, drop, inl, inr, map, refl, subst, sym}
+use Rattle.std.proofs.Common.{◌≡◌, ◌∙◌, ◌⊎◌, ◌∷◌, Bool, true, false, true≢false, ℕ, List, [], None, Bor, Option, Some, ap, drop, inl, inr, map, refl, subst, sym}
 use Rattle.std.specs.Io.KnownBytes.{Appends}
 use Rattle.std.specs.List.{list_all}
 use Rattle.std.specs.Str.{is_utf8}
@@ -20,7 +20,7 @@ use Rattle.order_protocol.proofs.MessageParts.{handed_again}
 use Rattle.desk.specs.Pages.{Cut, IsShown, Outputs, Page, Shows, Tells, cut_behind, cut_error, uncut}
 use Rattle.desk.specs.declared.lines.Failure.TheVariants.{Office}
 use Rattle.server.specs.RecordChanges.{RecordChange}
-use Rattle.server.specs.ServedOrders.{AsksSo, BeginsUnfailed, Follows, IsOrderOutcome, FollowsOrder, IsForFile, IsMessage, IsUnread, IsResponseToOrder, folder_of, closed_office_page, untold, words_in}
+use Rattle.server.specs.ServedOrders.{AgreesWithRecord, AsksSo, Follows, IsOrderOutcome, FollowsOrder, IsForFile, IsMessage, IsUnread, IsResponseToOrder, folder_of, closed_office_page, untold, words_in}
 use Rattle.server.specs.FrameSinks.{IsEnded}
 use Rattle.server.specs.Settings.{ServerSettingsEntry}
 use Rattle.server.specs.declared.served_order.ServedOrder.{ServedOrder}
@@ -163,23 +163,23 @@ order_unread file got message fault is (inr (store, none)) = subst (λ (f : Faul
 
 -- an order that wasn't decoded is refused
 pub follows_unread : {S : Type 0} (settings : ServerSettingsEntry) (state_of : Held S → State) (change : RecordChange) (old new : OfficeValue S) (got frames : List ℕ) (files : List MessagePartEntry) (what : ServedOrder)
-    → IsUnread settings.file got what → files ≡ [] → BeginsUnfailed change.had_failed what → (change.had_failed ≡ false → change.has_failed ≡ true → settings.recorded ≡ true)
+    → IsUnread settings.file got what → files ≡ [] → AgreesWithRecord change.had_failed what → (change.had_failed ≡ false → change.has_failed ≡ true → settings.recorded ≡ true)
     → IsResponseToOrder state_of change old files what frames new → FollowsOrder settings state_of change old got frames new
-follows_unread {S} settings state_of change old new got frames files what unread none begins fails tells =
-    record { files = files; asked = what; is = inr (unread, none); begins = begins; fails = fails; tells = tells }
+follows_unread {S} settings state_of change old new got frames files what unread none agrees fails tells =
+    record { files = files; asked = what; is = inr (unread, none); agrees = agrees; fails = fails; tells = tells }
 
 -- an order that was decoded is carried out, with the words and files that were decoded
 pub follows_read : {S : Type 0} (settings : ServerSettingsEntry) (state_of : Held S → State) (change : RecordChange) (old new : OfficeValue S) (got frames : List ℕ) (h : OrderMessage)
     (files : List MessagePart) (what : ServedOrder)
     → IsMessage got (order_message_entry h) → IsForFile settings.file (order_message_entry h) → files ≡ h.files.items
-    → AsksSo settings.whole settings.recorded (words_in (order_message_entry h)) what → BeginsUnfailed change.had_failed what
+    → AsksSo settings.whole settings.recorded (words_in (order_message_entry h)) what → AgreesWithRecord change.had_failed what
     → (change.had_failed ≡ false → change.has_failed ≡ true → settings.recorded ≡ true)
     → IsResponseToOrder state_of change old (message_part_entries files) what frames new → FollowsOrder settings state_of change old got frames new
-follows_read {S} settings state_of change old new got frames h files what message for_file same asks begins fails tells = record {
+follows_read {S} settings state_of change old new got frames h files what message for_file same asks agrees fails tells = record {
   files = message_part_entries files;
   asked = what;
   is = inl (order_message_entry h, message, for_file, ap message_part_entries same, asks);
-  begins = begins;
+  agrees = agrees;
   fails = fails;
   tells = tells;
 }
@@ -188,3 +188,9 @@ pub words_same : (h : OrderMessage) (seen : List MessagePart) (texts words : Lis
     → map (λ (t : Bor (List ℕ)). t.now) texts ≡ map (λ (p : MessagePart). p.name.now) seen → words ≡ texts → words_in (order_message_entry h) ≡ map (λ (t : Bor (List ℕ)). t.now) words
 words_same h seen texts words is read same =
     words_read h ∙ ap (map (λ (p : MessagePart). p.name.now)) (sym is) ∙ sym read ∙ ap (map (λ (t : Bor (List ℕ)). t.now)) (sym same)
+
+-- ---- the record
+
+-- an order that fails for another reason isn't refused because of its record
+pub other_failure : (failed : Bool) (fault : Fault) → AgreesWithRecord failed (asked.Refused (Office fault))
+other_failure failed fault is = absurd (cc is)
