@@ -768,6 +768,7 @@ module _ {S R : Type 0} (settings : ServerSettingsEntry) (view : ServedView S R)
     pub open_at : new.office.closed ≡ false → IsOpenIn settings.recorded (after s answered) (after s (answered ++ last)) new.office.closed (view.state_of new.office.held)
     pub leaves : LeavesState (view.state_of new.office.held) (IsAfterSome s (answered ++ last) (length answered))
     pub recorded : IsRecordOf (view.found recorder) s → LeavesRecord (view.found new.kept.recorder) (IsAfterSome s (answered ++ last) (length answered))
+    pub whole : view.failed new.kept.recorder ≡ false → new.office.closed ≡ false → IsRecordOf (view.found recorder) s → IsRecordOf (view.found new.kept.recorder) (after s answered)
 
   -- the office is open in the state after what was answered, or after the last request too
   open_first : (recorded : Bool) (s next : OfficeState) (closed : Bool) (st : State) → IsOpenAt s closed st → IsOpenIn recorded s next closed st
@@ -825,20 +826,24 @@ module _ {S R : Type 0} (settings : ServerSettingsEntry) (view : ServedView S R)
         (sym (fold-append after_one s sent (others.answered ++ others.last)) ∙ ap (after s) (sym (append_assoc sent others.answered others.last))) (others.open_at was);
     leaves = leaves_as (view.state_of new.office.held) _ _ (behind_all s sent others.answered others.last) others.leaves;
     recorded = λ was. record_as (view.found new.kept.recorder) _ _ (behind_all s sent others.answered others.last) (others.recorded (recorded was));
+    whole = λ well still was.
+        record_at (view.found new.kept.recorder) (after (after s sent) others.answered) (after s (sent ++ others.answered)) (sym (fold-append after_one s sent others.answered))
+        (others.whole well still (recorded was));
   }
 
   -- the record has failed since then
   went_unrecorded : (s : OfficeState) (exchange : Exchange) (exchanges : List Exchange) (answered last : List Request) (next : OfficeState) (before mid : R) (new : ServedOffice S R)
-      → settings.recorded ≡ true → IsUnacknowledgedAt exchange.listener view.state_of settings s exchange answered last → length last ≤ 1 → IsAfterLast s answered last next
+      → settings.recorded ≡ true → IsUnacknowledgedAt exchange.listener view.state_of settings s exchange answered last → view.failed mid ≡ true → length last ≤ 1 → IsAfterLast s answered last next
       → (IsRecordOf (view.found before) s → LeavesRecord (view.found mid) (IsAfterSome s (answered ++ last) (length answered))) → KeepsStill next exchanges new mid
       → KeepsAll s (exchange ∷ exchanges) before new
-  went_unrecorded s exchange exchanges answered last next before mid new is stopped few is_next recorded still = record {
+  went_unrecorded s exchange exchanges answered last next before mid new is stopped failing few is_next recorded still = record {
     answered = answered;
     last = last;
     in_turn = inr (inr (is, stopped, (next, is_next, still.in_turn)));
     open_at = λ was. open_next settings.recorded s answered last next new.office.closed (view.state_of new.office.held) is is_next (still.open_at was);
     leaves = leaves_as (view.state_of new.office.held) _ _ (λ x. some_next s answered last next x few is_next) still.leaves;
     recorded = λ was. leaves_same view.found mid new.kept.recorder _ still.same (recorded was);
+    whole = λ well still_open was. absurd (true≢false (sym (ap view.failed still.same ∙ failing) ∙ well));
   }
 
   -- the first exchange, and then the others
@@ -856,6 +861,7 @@ module _ {S R : Type 0} (settings : ServerSettingsEntry) (view : ServedView S R)
         open_at = λ was. open_first settings.recorded s s new.office.closed (view.state_of new.office.held) (still.open_at was);
         leaves = leaves_as (view.state_of new.office.held) _ _ (before_last s []) still.leaves;
         recorded = λ was. record_before (view.found new.kept.recorder) s [] (record_same view.found old.kept.recorder new.kept.recorder s still.same was);
+        whole = λ well still_open was. absurd (true≢false (sym (ap view.failed still.same ∙ failed) ∙ well));
       }
   keeps_first s exchange exchanges old mid new step rest clean is_open at right false unfailed others =
       by (turn_leaves exchange.listener s exchange old mid step unfailed (cleans exchanges mid new rest clean) is_open at right)
@@ -872,9 +878,10 @@ module _ {S R : Type 0} (settings : ServerSettingsEntry) (view : ServedView S R)
             open_at = λ was. absurd (true≢false (sym (ap (λ (o : OfficeValue S). o.closed) away.1 ∙ is_closed) ∙ was));
             leaves = subst (λ (o : OfficeValue S). LeavesState (view.state_of o.held) (IsAfterSome s (answered ++ last) (length answered))) (sym away.1) leaves;
             recorded = λ was. leaves_same view.found mid.kept.recorder new.kept.recorder _ away.2 (recorded was);
+            whole = λ well still was. absurd (true≢false (sym (ap (λ (o : OfficeValue S). o.closed) away.1 ∙ is_closed) ∙ still));
           }
       by (inr (inr (answered, last, is, stopped, failing, few, (next, is_next, kept, open_at), recorded))) =
-          went_unrecorded s exchange exchanges answered last next old.kept.recorder mid.kept.recorder new is stopped few is_next recorded
+          went_unrecorded s exchange exchanges answered last next old.kept.recorder mid.kept.recorder new is stopped failing few is_next recorded
           (keeps_still next exchanges mid new rest failing clean open_at.is_open open_at.at kept)
 
   keeps : (s : OfficeState) (exchanges : List Exchange) (old new : ServedOffice S R) → FoldsTo (ServesExchange settings view) old exchanges new
@@ -888,6 +895,7 @@ module _ {S R : Type 0} (settings : ServerSettingsEntry) (view : ServedView S R)
         open_at = λ was. open_first settings.recorded s s old.office.closed (view.state_of old.office.held) (record { is_open = was; at = at });
         leaves = leaves_as (view.state_of old.office.held) _ _ (before_last s []) at.leaves;
         recorded = λ was. record_before (view.found old.kept.recorder) s [] was;
+        whole = λ well still was. was;
       })
   keeps s (exchange ∷ exchanges) old new (mid, step, rest) clean is_open at right =
       keeps_first s exchange exchanges old mid new step rest clean is_open at right (view.failed old.kept.recorder) refl
@@ -896,7 +904,7 @@ module _ {S R : Type 0} (settings : ServerSettingsEntry) (view : ServedView S R)
   -- the same after earlier requests, with an empty cache, in the office and in its record
   pub record KeepsBoth (earlier : List Request) (exchanges : List Exchange) (recorder : R) (new : ServedOffice S R) : Type 0 where
     pub kept : KeepsExchanges view.state_of settings earlier exchanges new.office.closed (view.state_of new.office.held)
-    pub recorded : KeepsInRecord (view.found recorder) (view.found new.kept.recorder) earlier (kept.answered ++ kept.last) (length kept.answered)
+    pub recorded : KeepsInRecord (change_in view recorder new.kept.recorder) new.office.closed earlier kept.answered kept.last
 
   pub kept_of : (earlier : List Request) (exchanges : List Exchange) (old : OfficeValue S) (recorder : R) (new : ServedOffice S R)
       → FoldsTo (ServesExchange settings view) (with_none_kept old recorder) exchanges new
@@ -916,6 +924,11 @@ module _ {S R : Type 0} (settings : ServerSettingsEntry) (view : ServedView S R)
           keeps = leaves_as (view.state_of new.office.held) _ _
               (λ x some. beginning earlier (it.answered ++ it.last) (length it.answered) some.0 some.1 some.2 some.3 x some.4) it.leaves;
         };
-        recorded = λ was.
-            record_as (view.found new.kept.recorder) _ _ (λ x some. beginning earlier (it.answered ++ it.last) (length it.answered) some.0 some.1 some.2 some.3 x some.4) (it.recorded was);
+        recorded = record {
+          leaves = λ was.
+              record_as (view.found new.kept.recorder) _ _ (λ x some. beginning earlier (it.answered ++ it.last) (length it.answered) some.0 some.1 some.2 some.3 x some.4) (it.recorded was);
+          whole = λ well still was.
+              record_at (view.found new.kept.recorder) (after (after empty_office earlier) it.answered) (after empty_office (earlier ++ it.answered))
+              (sym (fold-append after_one empty_office earlier it.answered)) (it.whole well still was);
+        };
       }
