@@ -201,8 +201,8 @@ few_next requests n = let it = length-take 1 (drop n requests) in omega (arith, 
 after_both : (s : OfficeState) (requests : List Request) (n : ℕ) → after s (take (n + 1) requests) ≡ after s (take n requests ++ take 1 (drop n requests))
 after_both s requests n = ap (after s) (take-add n 1 requests)
 
--- What an order that was carried out leaves, if the record hadn't failed before. The office is open in the state after what was answered, and so is the record. Or the office is closed, and
--- a stop leaves that state or the state after the next request. Or the record failed.
+-- What an order that was carried out leaves, if the record hadn't failed before. The office is open in the state after what was answered, and so is the record. Or the
+-- office is closed, and a stop leaves that state or the state after the next request. Or the record failed.
 abbrev OrderLeaves : {S : Type 0} → (Held S → State) → Bool → Folder → OfficeState → ServedOrder → Cut → Page → RecordChange → Bool → State → Type 0
 OrderLeaves state_of recorded folder s what cut page change closed st =
     ((sent : List Request) × (last : List Request) × PrintsAt state_of recorded folder s what cut page sent last × IsOpenAt (after s sent) closed st
@@ -294,8 +294,8 @@ module _ {S R : Type 0} (state_of : Held S → State) (found : R → Text → Ty
 
 -- ---- one request after another
 
--- What a processed request leaves, if the record hadn't failed before. Its response, and the office, still open, with cached responses that are correct in its state, and with a record of that
--- state; or a fault closed the office; or the record failed.
+-- What a processed request leaves, if the record hadn't failed before. Its response, and the office, still open, with cached responses that are correct in its state,
+-- and with a record of that state; or a fault closed the office; or the record failed.
 abbrev TurnLeaves : {S R : Type 0} → Listener → ServedView S R → ServerSettingsEntry → OfficeState → Exchange → ServedOffice S R → ServedOffice S R → Type 0
 TurnLeaves listener view settings s exchange old new =
     ((sent : List Request) × IsAnsweredAt listener view.state_of settings s exchange sent × AreReadAt (after s sent) new.kept.reads

@@ -167,8 +167,8 @@ pub record IsKeyingUnrecorded {S R : Type 0} (settings : ServerSettingsEntry) (v
   pub told : IsUnrecordedResponse exchange
   pub clean : HasCleanDisk (view.state_of new.office.held) → HasCleanDisk (view.state_of old.office.held)
 
--- A client that sends no order is served, unless the record has failed or fails now, and then the cache is empty afterwards if it is a clerk's keying. An order that a client sends is
--- carried out, and the cache is emptied.
+-- A client that sends no order is served. But a clerk's keying isn't sent to the office once the record has failed, and isn't acknowledged if recording it fails; then the
+-- cache is emptied, too. An order that a client sends is carried out, and the cache is emptied.
 abbrev pub ServesAsked : {S R : Type 0} → ServerSettingsEntry → ServedView S R → ServedOffice S R → Exchange → ServedOffice S R → Type 0
 ServesAsked settings view old exchange new =
     ((AsksNoOrder settings.clients exchange.got × ServesClient settings.clients view old exchange new)

@@ -136,8 +136,8 @@ IsEndedBy before later (Err ended.Rounds) = (later.failed ≡ before.failed) × 
 
 -- Connections from clients and for orders were accepted: no more clients than requested, and exactly as many if serving ended without a failure. What happened to each
 -- connection is as specified, and each was handed back, exactly once, with its stream in its final state. Their requests were processed one at a time, each in the
--- office that the previous ones left. At first the cache was empty, and no wrong code had been sent. What is kept of the requests, in the office and in its second record, is as specified, too.
--- Serving doesn't end because a new office took the place of a file that is permanently known to be whole.
+-- office that the previous ones left. At first the cache was empty, and no wrong code had been sent. What is kept of the requests, in the office and in its second
+-- record, is as specified, too. Serving doesn't end because a new office took the place of a file that is permanently known to be whole.
 pub record ServesRecorded {L S R : Type 0} (settings : ServerSettingsEntry) (stream : Stream L) (view : ServedView S R) (before later : NetworkEntry L) (most : Option ℕ)
     (old new : OfficeValue S) (recorder : R) (result : Result (Unit {0}) ServeError) (recorder_later : R) : Type 0 where
   pub all_connections : List (ServedConnection L)
