@@ -312,9 +312,9 @@ fn close<D: Disk + Drop>(conn: Connection<FileStore<D>>) -> Option<Files<D>>
 }
 
 /// Performs an order on the database that the first word names, and returns the status.
-fn perform_at_path<O: Sink, E: Sink>(
+fn perform_at_path<'a, O: Sink, E: Sink>(
     rt: &HostRuntime,
-    given: &SplitWords<'_>,
+    given: &'a SplitWords<'a>,
     order: &Order<'_>,
     out: &mut O,
     err: &mut E,
@@ -336,7 +336,7 @@ fn perform_at_path<O: Sink, E: Sink>(
         path,
         words,
         order,
-        second: given.second,
+        second: given.second.unwrap_or(""),
         is_successor: false,
         succession: &succession,
     };

@@ -32,7 +32,7 @@ const PAUSE: u64 = 10;
 /// The number of pauses after which the program tells a person at a terminal what the order is waiting for.
 const PAUSES_UNSEEN: u32 = 50;
 
-/// An order, its words starting with DB, the path of its database, and that of a second record if one was given; whether the database is
+/// An order, its words starting with DB, the path of its database, and that of a second record, which is empty if there is none; whether the database is
 /// that of a new office that takes the place of one that was served, and what is left of that one.
 #[derive(Clone, Copy)]
 pub struct OrderRun<'a> {
@@ -40,7 +40,7 @@ pub struct OrderRun<'a> {
     pub path: &'a str,
     pub words: &'a [&'a str],
     pub order: &'a Order<'a>,
-    pub second: Option<&'a str>,
+    pub second: &'a str,
     pub is_successor: bool,
     pub succession: &'a Succession,
 }
@@ -163,7 +163,7 @@ fn hand_over<O: Sink, E: Sink>(
         return Err(LockHolder::Order);
     };
     // The program that serves the database doesn't append to the second record of an order.
-    if request.second.is_some() {
+    if !request.second.is_empty() {
         return Ok(tell_failure(Failure::BeingServed, err));
     }
     match send_order(request.rt, database, order_files) {
@@ -181,6 +181,15 @@ fn is_locked_by_other(rt: &HostRuntime, database: &str, error: &io::Error) -> bo
             fs::symlink_metadata(rt, database).is_ok_and(|found| found.is_file())
         }
         _ => false,
+    }
+}
+
+/// Returns the path of an order's second record, if there is one.
+fn second_of<'a>(request: OrderRun<'a>) -> Option<&'a str> {
+    if request.second.is_empty() {
+        None
+    } else {
+        Some(request.second)
     }
 }
 
@@ -204,7 +213,7 @@ fn perform_locked<O: Sink, E: Sink>(
         found,
         lock,
         brought,
-        second: request.second,
+        second: second_of(request),
         is_successor: request.is_successor,
         succession: request.succession,
     };
@@ -291,7 +300,7 @@ fn perform_with_retries<O: Sink, E: Sink>(request: OrderRun<'_>, out: &mut O, er
     status
 }
 
-/// Performs an order on the database at a path, and prints nothing but what the order itself prints. Returns its status; `None` if
+/// Performs an order on the database at a path, without a second record, and prints nothing but what the order itself prints. Returns its status; `None` if
 /// another program has locked the file for half a second.
 pub fn perform_quietly<O: Sink, E: Sink>(
     request: OrderRun<'_>,
@@ -301,6 +310,10 @@ pub fn perform_quietly<O: Sink, E: Sink>(
     requires out { O.failed out.old < 2 ^ 64 - 1 }
     requires err { E.failed err.old < 2 ^ 64 - 1 }
 {
+    let request = OrderRun {
+        second: "",
+        ..request
+    };
     let mut brought = None;
     for _ in 0..PAUSES_UNSEEN {
         if let Ok(status) = attempt(request, &mut brought, out, err) {
