@@ -251,7 +251,8 @@ module _ {S R : Type 0} (state_of : Held S → State) (found : R → Text → Ty
           → IsOpenAt (after s (take answered requests)) new.closed (state_of new.held) ⊎ ((failed later ≡ true) × IsOpenAt (after s (take (answered + 1) requests)) new.closed (state_of new.held))
       open_at is_open = open_done_by (failed later) (state_of old.held) new.closed (state_of new.held) folder s job course done is_open
 
-      next_open : IsOpenAt (after s (take answered requests)) new.closed (state_of new.held) ⊎ ((failed later ≡ true) × IsOpenAt (after s (take (answered + 1) requests)) new.closed (state_of new.held))
+      next_open : IsOpenAt (after s (take answered requests)) new.closed (state_of new.held) ⊎
+          ((failed later ≡ true) × IsOpenAt (after s (take (answered + 1) requests)) new.closed (state_of new.held))
           → (next : OfficeState) × IsAfterLast s (take answered requests) (take 1 (drop answered requests)) next × IsOpenAt next new.closed (state_of new.held)
       next_open (inl here) = (after s (take answered requests), inl refl, here)
       next_open (inr (failing, here)) = (after s (take (answered + 1) requests), inr (after_both s requests answered), here)

@@ -36,7 +36,8 @@ sent_file file = record { name = file.name; bytes = Some file.text }
 
 -- what an order asks for, given the files sent with it; or an allocation failed
 abbrev pub AsksConsole : ServerSettingsEntry → ConsoleOrderEntry → List MessagePartEntry → ServedOrder → Type 0
-AsksConsole settings entry files what = ((files ≡ map sent_file entry.files) × AsksSo settings.whole settings.recorded (typed_words entry.words) what) ⊎ ((what ≡ asked.Refused (Office Memory)) × (files ≡ []))
+AsksConsole settings entry files what = ((files ≡ map sent_file entry.files) × AsksSo settings.whole settings.recorded (typed_words entry.words) what) ⊎
+    ((what ≡ asked.Refused (Office Memory)) × (files ≡ []))
 
 -- ---- the output
 

@@ -96,7 +96,8 @@ IsUnread file got what =
 -- what the given bytes ask for, given the files sent with the order
 abbrev pub AsksOrder : ServerSettingsEntry → List ℕ → List MessagePartEntry → ServedOrder → Type 0
 AsksOrder settings got files what =
-    ((h : OrderMessageEntry) × IsMessage got h × IsForFile settings.file h × (files ≡ h.files) × AsksSo settings.whole settings.recorded (words_in h) what) ⊎ (IsUnread settings.file got what × (files ≡ []))
+    ((h : OrderMessageEntry) × IsMessage got h × IsForFile settings.file h × (files ≡ h.files) × AsksSo settings.whole settings.recorded (words_in h) what) ⊎
+    (IsUnread settings.file got what × (files ≡ []))
 
 -- ---- the files
 

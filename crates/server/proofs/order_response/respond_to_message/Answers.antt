@@ -24,7 +24,8 @@ returns-in-Err-clause-followed g c = λ got message.
     follows_unread (settings_by g.A.ServedFile.whole (g.R.Recorder.records c.args.recorder.now) c.args.server_settings) (state g.S.Store)
     (change_of g.R.Recorder.found g.R.Recorder.failed c.args.recorder.now c.tell_refused-in-Err.new.recorder) c.args.office.now c.tell_refused-in-Err.new.office got
     c.tell_refused-in-Err.result.1.bytes.items _ (asked.Refused (Office c.in-Err.fault))
-    (words_unread c.args.server_settings.file got c.args.message.now c.deref.result.now c.in-Err.fault message c.deref.ensures.value c.in-Err.ensures.err) refl (other_failure (g.R.Recorder.failed c.args.recorder.now) c.in-Err.fault)
+    (words_unread c.args.server_settings.file got c.args.message.now c.deref.result.now c.in-Err.fault message c.deref.ensures.value c.in-Err.ensures.err) refl
+    (other_failure (g.R.Recorder.failed c.args.recorder.now) c.in-Err.fault)
     c.tell_refused-in-Err.ensures.fails c.tell_refused-in-Err.ensures.followed
 
 pub returns-clause-followed : goal.returns-clause-followed
