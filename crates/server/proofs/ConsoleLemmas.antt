@@ -31,7 +31,7 @@ use Rattle.server.specs.RecordChanges.{RecordChange, ServedView, change_in}
 use Rattle.server.specs.Settings.{ServerSettingsEntry}
 use Rattle.server.specs.declared.served_order.ServedOrder.TheVariants as asked
 use Rattle.server.proofs.AnswerLemmas.{noted_still, served_none}
-use Rattle.server.proofs.OrderLemmas.{follows_sent}
+use Rattle.server.proofs.OrderLemmas.{follows_sent, other_failure}
 
 -- ---- what is requested
 
@@ -101,7 +101,7 @@ module _ {S : Type 0} (settings : ServerSettingsEntry) (state_of : Held S → St
       files = it.files;
       asked = it.asked;
       is = it.is;
-      begins = it.begins;
+      agrees = it.agrees;
       fails = it.fails;
       tells = follows_sent state_of change old new it.files it.asked (λ cut page. HasPrinted cut page response) (λ cut page. IsInResponse cut page answer)
           (λ cut page has. (served, record { response = response; ready = has; put = put })) it.tells;
@@ -130,7 +130,7 @@ module _ {S : Type 0} (settings : ServerSettingsEntry) (state_of : Held S → St
           files = [];
           asked = asked.Refused (Office Memory);
           is = inr (refl, refl);
-          begins = tt;
+          agrees = other_failure change.had_failed Memory;
           fails = λ had has. absurd (true≢false (sym has ∙ still ∙ had));
           tells = record {
             cut = uncut;

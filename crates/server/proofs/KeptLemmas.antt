@@ -37,7 +37,7 @@ use Rattle.desk.proofs.OpenLemmas.{after_next}
 use Rattle.desk.specs.Records.{IsAfterAnswered, IsRecordOf, IsRecorded, LeavesRecord, Records}
 use Rattle.desk.proofs.RecordedEnds.{done_recorded, open_done_by}
 use Rattle.server.specs.RecordChanges.{RecordChange, ServedView, change_in, change_of}
-use Rattle.server.specs.ServedOrders.{BeginsUnfailed, IsOrderOutcome, IsFramed, OrderPrints, PrintsAt, folder_of}
+use Rattle.server.specs.ServedOrders.{AgreesWithRecord, IsOrderOutcome, IsFramed, OrderPrints, PrintsAt, folder_of}
 use Rattle.server.specs.ConsoleOrders.{FollowsConsole, IsInResponse, ConsolePrints}
 use Rattle.wire.specs.Gates.{HttpSettingsEntry}
 use Rattle.server.specs.Reads.{AreReadAt, ServedOffice, IsRead, ReadEntry, with_none_kept}
@@ -201,8 +201,8 @@ few_next requests n = let it = length-take 1 (drop n requests) in omega (arith, 
 after_both : (s : OfficeState) (requests : List Request) (n : ℕ) → after s (take (n + 1) requests) ≡ after s (take n requests ++ take 1 (drop n requests))
 after_both s requests n = ap (after s) (take-add n 1 requests)
 
--- What an order that was carried out leaves, if the record hadn't failed before. The office is open in the state after what was answered, and so is the record. Or the office is closed, and
--- a stop leaves that state or the state after the next request. Or the record failed.
+-- What an order that was carried out leaves, if the record hadn't failed before. The office is open in the state after what was answered, and so is the record. Or the
+-- office is closed, and a stop leaves that state or the state after the next request. Or the record failed.
 abbrev OrderLeaves : {S : Type 0} → (Held S → State) → Bool → Folder → OfficeState → ServedOrder → Cut → Page → RecordChange → Bool → State → Type 0
 OrderLeaves state_of recorded folder s what cut page change closed st =
     ((sent : List Request) × (last : List Request) × PrintsAt state_of recorded folder s what cut page sent last × IsOpenAt (after s sent) closed st
@@ -251,7 +251,8 @@ module _ {S R : Type 0} (state_of : Held S → State) (found : R → Text → Ty
           → IsOpenAt (after s (take answered requests)) new.closed (state_of new.held) ⊎ ((failed later ≡ true) × IsOpenAt (after s (take (answered + 1) requests)) new.closed (state_of new.held))
       open_at is_open = open_done_by (failed later) (state_of old.held) new.closed (state_of new.held) folder s job course done is_open
 
-      next_open : IsOpenAt (after s (take answered requests)) new.closed (state_of new.held) ⊎ ((failed later ≡ true) × IsOpenAt (after s (take (answered + 1) requests)) new.closed (state_of new.held))
+      next_open : IsOpenAt (after s (take answered requests)) new.closed (state_of new.held) ⊎
+          ((failed later ≡ true) × IsOpenAt (after s (take (answered + 1) requests)) new.closed (state_of new.held))
           → (next : OfficeState) × IsAfterLast s (take answered requests) (take 1 (drop answered requests)) next × IsOpenAt next new.closed (state_of new.held)
       next_open (inl here) = (after s (take answered requests), inl refl, here)
       next_open (inr (failing, here)) = (after s (take (answered + 1) requests), inr (after_both s requests answered), here)
@@ -282,20 +283,20 @@ module _ {S R : Type 0} (state_of : Held S → State) (found : R → Text → Ty
   order_leaves old new (asked.Misread fault) cut page unfailed fails it = none_sent (asked.Misread fault) cut page new.closed (state_of new.held) (it.0, refl, refl) (inl it.1) it.2
 
   -- once the record has failed, no job is carried out, and nothing is sent
-  order_still : (old new : OfficeValue S) (what : ServedOrder) (cut : Cut) (page : Page) → failed before ≡ true → BeginsUnfailed (failed before) what
+  order_still : (old new : OfficeValue S) (what : ServedOrder) (cut : Cut) (page : Page) → failed before ≡ true → AgreesWithRecord (failed before) what
       → IsOrderOutcome (change_of found failed before later) (state_of old.held) new.closed (state_of new.held) folder s what cut page
       → PrintsAt state_of recorded folder s what cut page [] [] × IsReadAt s new.closed (state_of new.held) × (later ≡ before)
-  order_still old new (asked.Do job) cut page was begins it = absurd (true≢false (sym was ∙ begins))
-  order_still old new (asked.Copy path) cut page was begins it = ((it.0, refl, refl), it.1, it.2)
-  order_still old new asked.Journal cut page was begins it = ((it.0, refl, refl), it.1, it.2)
-  order_still old new (asked.Mend mending) cut page was begins it = ((it.0, refl, refl), it.1, it.2)
-  order_still old new (asked.Refused failure) cut page was begins it = ((it.0, refl, refl), inl it.1, it.2)
-  order_still old new (asked.Misread fault) cut page was begins it = ((it.0, refl, refl), inl it.1, it.2)
+  order_still old new (asked.Do job) cut page was agrees it = absurd (true≢false (sym was ∙ agrees))
+  order_still old new (asked.Copy path) cut page was agrees it = ((it.0, refl, refl), it.1, it.2)
+  order_still old new asked.Journal cut page was agrees it = ((it.0, refl, refl), it.1, it.2)
+  order_still old new (asked.Mend mending) cut page was agrees it = ((it.0, refl, refl), it.1, it.2)
+  order_still old new (asked.Refused failure) cut page was agrees it = ((it.0, refl, refl), inl it.1, it.2)
+  order_still old new (asked.Misread fault) cut page was agrees it = ((it.0, refl, refl), inl it.1, it.2)
 
 -- ---- one request after another
 
--- What a processed request leaves, if the record hadn't failed before. Its response, and the office, still open, with cached responses that are correct in its state, and with a record of that
--- state; or a fault closed the office; or the record failed.
+-- What a processed request leaves, if the record hadn't failed before. Its response, and the office, still open, with cached responses that are correct in its state,
+-- and with a record of that state; or a fault closed the office; or the record failed.
 abbrev TurnLeaves : {S R : Type 0} → Listener → ServedView S R → ServerSettingsEntry → OfficeState → Exchange → ServedOffice S R → ServedOffice S R → Type 0
 TurnLeaves listener view settings s exchange old new =
     ((sent : List Request) × IsAnsweredAt listener view.state_of settings s exchange sent × AreReadAt (after s sent) new.kept.reads
@@ -681,7 +682,7 @@ module _ {S R : Type 0} (settings : ServerSettingsEntry) (view : ServedView S R)
       let had = it.follows in
       let told = had.tells in
       let (so, reads, same) = order_still view.state_of view.found view.failed old.kept.recorder new.kept.recorder settings.recorded (folder_of had.files) s old.office new.office had.asked
-      told.cut told.page failed had.begins (told.does clean is_open s at) in (
+      told.cut told.page failed had.agrees (told.does clean is_open s at) in (
         same,
         read_still s new (IsAnsweredAt Clients view.state_of settings s exchange []) (IsStoppedAt Clients view.state_of settings s exchange [] []) (console_tells s exchange old new it [] [] so)
             (λ prints. inr ([], prints)) (λ prints. inr prints) emptied reads,
@@ -707,7 +708,7 @@ module _ {S R : Type 0} (settings : ServerSettingsEntry) (view : ServedView S R)
   turn_still Orders s exchange old new (it, emptied, limit) failed clean is_open at right =
       let told = it.tells in
       let (so, reads, same) = order_still view.state_of view.found view.failed old.kept.recorder new.kept.recorder settings.recorded (folder_of it.files) s old.office new.office it.asked
-      told.cut told.page failed it.begins (told.does clean is_open s at) in
+      told.cut told.page failed it.agrees (told.does clean is_open s at) in
       let prints : OrderPrints view.state_of settings s exchange.got exchange.answer [] [] =
       record { files = it.files; asked = it.asked; is = it.is; cut = told.cut; page = told.page; told = told.told; tells = so } in (
         same,
@@ -768,6 +769,7 @@ module _ {S R : Type 0} (settings : ServerSettingsEntry) (view : ServedView S R)
     pub open_at : new.office.closed ≡ false → IsOpenIn settings.recorded (after s answered) (after s (answered ++ last)) new.office.closed (view.state_of new.office.held)
     pub leaves : LeavesState (view.state_of new.office.held) (IsAfterSome s (answered ++ last) (length answered))
     pub recorded : IsRecordOf (view.found recorder) s → LeavesRecord (view.found new.kept.recorder) (IsAfterSome s (answered ++ last) (length answered))
+    pub whole : view.failed new.kept.recorder ≡ false → new.office.closed ≡ false → IsRecordOf (view.found recorder) s → IsRecordOf (view.found new.kept.recorder) (after s answered)
 
   -- the office is open in the state after what was answered, or after the last request too
   open_first : (recorded : Bool) (s next : OfficeState) (closed : Bool) (st : State) → IsOpenAt s closed st → IsOpenIn recorded s next closed st
@@ -825,20 +827,24 @@ module _ {S R : Type 0} (settings : ServerSettingsEntry) (view : ServedView S R)
         (sym (fold-append after_one s sent (others.answered ++ others.last)) ∙ ap (after s) (sym (append_assoc sent others.answered others.last))) (others.open_at was);
     leaves = leaves_as (view.state_of new.office.held) _ _ (behind_all s sent others.answered others.last) others.leaves;
     recorded = λ was. record_as (view.found new.kept.recorder) _ _ (behind_all s sent others.answered others.last) (others.recorded (recorded was));
+    whole = λ well still was.
+        record_at (view.found new.kept.recorder) (after (after s sent) others.answered) (after s (sent ++ others.answered)) (sym (fold-append after_one s sent others.answered))
+        (others.whole well still (recorded was));
   }
 
   -- the record has failed since then
   went_unrecorded : (s : OfficeState) (exchange : Exchange) (exchanges : List Exchange) (answered last : List Request) (next : OfficeState) (before mid : R) (new : ServedOffice S R)
-      → settings.recorded ≡ true → IsUnacknowledgedAt exchange.listener view.state_of settings s exchange answered last → length last ≤ 1 → IsAfterLast s answered last next
+      → settings.recorded ≡ true → IsUnacknowledgedAt exchange.listener view.state_of settings s exchange answered last → view.failed mid ≡ true → length last ≤ 1 → IsAfterLast s answered last next
       → (IsRecordOf (view.found before) s → LeavesRecord (view.found mid) (IsAfterSome s (answered ++ last) (length answered))) → KeepsStill next exchanges new mid
       → KeepsAll s (exchange ∷ exchanges) before new
-  went_unrecorded s exchange exchanges answered last next before mid new is stopped few is_next recorded still = record {
+  went_unrecorded s exchange exchanges answered last next before mid new is stopped failing few is_next recorded still = record {
     answered = answered;
     last = last;
     in_turn = inr (inr (is, stopped, (next, is_next, still.in_turn)));
     open_at = λ was. open_next settings.recorded s answered last next new.office.closed (view.state_of new.office.held) is is_next (still.open_at was);
     leaves = leaves_as (view.state_of new.office.held) _ _ (λ x. some_next s answered last next x few is_next) still.leaves;
     recorded = λ was. leaves_same view.found mid new.kept.recorder _ still.same (recorded was);
+    whole = λ well still_open was. absurd (true≢false (sym (ap view.failed still.same ∙ failing) ∙ well));
   }
 
   -- the first exchange, and then the others
@@ -856,6 +862,7 @@ module _ {S R : Type 0} (settings : ServerSettingsEntry) (view : ServedView S R)
         open_at = λ was. open_first settings.recorded s s new.office.closed (view.state_of new.office.held) (still.open_at was);
         leaves = leaves_as (view.state_of new.office.held) _ _ (before_last s []) still.leaves;
         recorded = λ was. record_before (view.found new.kept.recorder) s [] (record_same view.found old.kept.recorder new.kept.recorder s still.same was);
+        whole = λ well still_open was. absurd (true≢false (sym (ap view.failed still.same ∙ failed) ∙ well));
       }
   keeps_first s exchange exchanges old mid new step rest clean is_open at right false unfailed others =
       by (turn_leaves exchange.listener s exchange old mid step unfailed (cleans exchanges mid new rest clean) is_open at right)
@@ -872,9 +879,10 @@ module _ {S R : Type 0} (settings : ServerSettingsEntry) (view : ServedView S R)
             open_at = λ was. absurd (true≢false (sym (ap (λ (o : OfficeValue S). o.closed) away.1 ∙ is_closed) ∙ was));
             leaves = subst (λ (o : OfficeValue S). LeavesState (view.state_of o.held) (IsAfterSome s (answered ++ last) (length answered))) (sym away.1) leaves;
             recorded = λ was. leaves_same view.found mid.kept.recorder new.kept.recorder _ away.2 (recorded was);
+            whole = λ well still was. absurd (true≢false (sym (ap (λ (o : OfficeValue S). o.closed) away.1 ∙ is_closed) ∙ still));
           }
       by (inr (inr (answered, last, is, stopped, failing, few, (next, is_next, kept, open_at), recorded))) =
-          went_unrecorded s exchange exchanges answered last next old.kept.recorder mid.kept.recorder new is stopped few is_next recorded
+          went_unrecorded s exchange exchanges answered last next old.kept.recorder mid.kept.recorder new is stopped failing few is_next recorded
           (keeps_still next exchanges mid new rest failing clean open_at.is_open open_at.at kept)
 
   keeps : (s : OfficeState) (exchanges : List Exchange) (old new : ServedOffice S R) → FoldsTo (ServesExchange settings view) old exchanges new
@@ -888,6 +896,7 @@ module _ {S R : Type 0} (settings : ServerSettingsEntry) (view : ServedView S R)
         open_at = λ was. open_first settings.recorded s s old.office.closed (view.state_of old.office.held) (record { is_open = was; at = at });
         leaves = leaves_as (view.state_of old.office.held) _ _ (before_last s []) at.leaves;
         recorded = λ was. record_before (view.found old.kept.recorder) s [] was;
+        whole = λ well still was. was;
       })
   keeps s (exchange ∷ exchanges) old new (mid, step, rest) clean is_open at right =
       keeps_first s exchange exchanges old mid new step rest clean is_open at right (view.failed old.kept.recorder) refl
@@ -896,7 +905,7 @@ module _ {S R : Type 0} (settings : ServerSettingsEntry) (view : ServedView S R)
   -- the same after earlier requests, with an empty cache, in the office and in its record
   pub record KeepsBoth (earlier : List Request) (exchanges : List Exchange) (recorder : R) (new : ServedOffice S R) : Type 0 where
     pub kept : KeepsExchanges view.state_of settings earlier exchanges new.office.closed (view.state_of new.office.held)
-    pub recorded : KeepsInRecord (view.found recorder) (view.found new.kept.recorder) earlier (kept.answered ++ kept.last) (length kept.answered)
+    pub recorded : KeepsInRecord (change_in view recorder new.kept.recorder) new.office.closed earlier kept.answered kept.last
 
   pub kept_of : (earlier : List Request) (exchanges : List Exchange) (old : OfficeValue S) (recorder : R) (new : ServedOffice S R)
       → FoldsTo (ServesExchange settings view) (with_none_kept old recorder) exchanges new
@@ -916,6 +925,11 @@ module _ {S R : Type 0} (settings : ServerSettingsEntry) (view : ServedView S R)
           keeps = leaves_as (view.state_of new.office.held) _ _
               (λ x some. beginning earlier (it.answered ++ it.last) (length it.answered) some.0 some.1 some.2 some.3 x some.4) it.leaves;
         };
-        recorded = λ was.
-            record_as (view.found new.kept.recorder) _ _ (λ x some. beginning earlier (it.answered ++ it.last) (length it.answered) some.0 some.1 some.2 some.3 x some.4) (it.recorded was);
+        recorded = record {
+          leaves = λ was.
+              record_as (view.found new.kept.recorder) _ _ (λ x some. beginning earlier (it.answered ++ it.last) (length it.answered) some.0 some.1 some.2 some.3 x some.4) (it.recorded was);
+          whole = λ well still was.
+              record_at (view.found new.kept.recorder) (after (after empty_office earlier) it.answered) (after empty_office (earlier ++ it.answered))
+              (sym (fold-append after_one empty_office earlier it.answered)) (it.whole well still was);
+        };
       }

@@ -1,5 +1,5 @@
 -- How an order is processed, step by step.
-use Rattle.std.proofs.Common.{◌≡◌, ◌∙◌, ◌⊎◌, ◌∷◌, true, false, true≢false, ℕ, List, [], None, Bor, Option, Some, ap, drop, inl, inr, map, refl, subst, sym}
+use Rattle.std.proofs.Common.{◌≡◌, ◌∙◌, ◌⊎◌, ◌∷◌, Bool, true, false, true≢false, ℕ, List, [], None, Bor, Option, Some, ap, drop, inl, inr, map, refl, subst, sym}
 use Rattle.std.specs.Io.KnownBytes.{Appends}
 use Rattle.std.specs.List.{list_all}
 use Rattle.std.specs.Str.{is_utf8}
@@ -20,7 +20,21 @@ use Rattle.order_protocol.proofs.MessageParts.{handed_again}
 use Rattle.desk.specs.Pages.{Cut, IsShown, Outputs, Page, Shows, Tells, cut_behind, cut_error, uncut}
 use Rattle.desk.specs.declared.lines.Failure.TheVariants.{Office}
 use Rattle.server.specs.RecordChanges.{RecordChange}
-use Rattle.server.specs.ServedOrders.{AsksSo, BeginsUnfailed, Follows, IsOrderOutcome, FollowsOrder, IsForFile, IsMessage, IsUnread, IsResponseToOrder, folder_of, closed_office_page, untold, words_in}
+use Rattle.server.specs.ServedOrders.{
+  AgreesWithRecord,
+  AsksSo,
+  Follows,
+  IsOrderOutcome,
+  FollowsOrder,
+  IsForFile,
+  IsMessage,
+  IsUnread,
+  IsResponseToOrder,
+  folder_of,
+  closed_office_page,
+  untold,
+  words_in,
+}
 use Rattle.server.specs.FrameSinks.{IsEnded}
 use Rattle.server.specs.Settings.{ServerSettingsEntry}
 use Rattle.server.specs.declared.served_order.ServedOrder.{ServedOrder}
@@ -48,10 +62,12 @@ shown_said (cut_behind took) told page status it = taken_known told.out took it.
 shown_said cut_error told page status it = taken_known told.out page.out it.out
 
 -- the request was carried out, and this part of its page was sent this way
-pub follows_asked : {S : Type 0} (state_of : Held S → State) (change : RecordChange) (old new : OfficeValue S) (files : List MessagePartEntry) (what : ServedOrder) (before after : Outputs) (status : ℕ)
+pub follows_asked : {S : Type 0} (state_of : Held S → State) (change : RecordChange) (old new : OfficeValue S) (files : List MessagePartEntry) (what : ServedOrder)
+    (before after : Outputs) (status : ℕ)
     (IsSent : Cut → Page → Type 0) → before ≡ untold → ((cut : Cut) (page : Page) → IsShown cut untold after page status → IsSent cut page)
     → Tells before after status (λ cut page. WhenOpenAt state_of old new (λ s. IsOrderOutcome change (state_of old.held) new.closed (state_of new.held) (folder_of files) s what cut page)
-    × (old.closed ≡ true → page ≡ closed_office_page what)) → (old.closed ≡ true → new ≡ old) → (old.closed ≡ true → change.same) → (HasCleanDisk (state_of new.held) → HasCleanDisk (state_of old.held))
+    × (old.closed ≡ true → page ≡ closed_office_page what)) → (old.closed ≡ true → new ≡ old) → (old.closed ≡ true → change.same) →
+    (HasCleanDisk (state_of new.held) → HasCleanDisk (state_of old.held))
     → Follows state_of change old files what IsSent new
 follows_asked {S} state_of change old new files what before after status IsSent start sends it stays same clean = record {
   cut = it.cut;
@@ -63,7 +79,8 @@ follows_asked {S} state_of change old new files what before after status IsSent 
 }
 
 -- the request was carried out, and its page was sent another way
-pub follows_sent : {S : Type 0} (state_of : Held S → State) (change : RecordChange) (old new : OfficeValue S) (files : List MessagePartEntry) (what : ServedOrder) (IsSent IsSentToo : Cut → Page → Type 0)
+pub follows_sent : {S : Type 0} (state_of : Held S → State) (change : RecordChange) (old new : OfficeValue S) (files : List MessagePartEntry) (what : ServedOrder)
+    (IsSent IsSentToo : Cut → Page → Type 0)
     → ((cut : Cut) (page : Page) → IsSent cut page → IsSentToo cut page) → Follows state_of change old files what IsSent new → Follows state_of change old files what IsSentToo new
 follows_sent {S} state_of change old new files what IsSent IsSentToo turns it = record {
   cut = it.cut;
@@ -79,7 +96,8 @@ pub tells_asked : {L S : Type 0} (stream : Stream L) (state_of : Held S → Stat
     (before after : Outputs) (status : ℕ) (err : List ℕ)
     (now : L) (answer : PendingResponse) → before ≡ untold → after.err ≡ Some err → ((said : List ℕ) → after.out ≡ Some said → IsEnded stream said status err now answer)
     → Tells before after status (λ cut page. WhenOpenAt state_of old new (λ s. IsOrderOutcome change (state_of old.held) new.closed (state_of new.held) (folder_of files) s what cut page)
-    × (old.closed ≡ true → page ≡ closed_office_page what)) → (old.closed ≡ true → new ≡ old) → (old.closed ≡ true → change.same) → (HasCleanDisk (state_of new.held) → HasCleanDisk (state_of old.held))
+    × (old.closed ≡ true → page ≡ closed_office_page what)) → (old.closed ≡ true → new ≡ old) → (old.closed ≡ true → change.same) →
+    (HasCleanDisk (state_of new.held) → HasCleanDisk (state_of old.held))
     → IsResponseToOrder state_of change old files what answer.bytes.items new × IsSent stream now answer.bytes.items answer.sent
 tells_asked {L} {S} stream state_of change old new files what before after status err now answer start is_err ends it stays same clean =
     let shown : IsShown it.cut untold after it.page status = subst (λ (o : Outputs). IsShown it.cut o after it.page status) start it.shown in
@@ -97,9 +115,11 @@ tells_asked {L} {S} stream state_of change old new files what before after statu
     )
 
 -- the page of a closed office
-pub tells_shut : {S : Type 0} (state_of : Held S → State) (change : RecordChange) (office : OfficeValue S) (files : List MessagePartEntry) (what : ServedOrder) (before after : Outputs) (status : ℕ) → office.closed ≡ true
+pub tells_shut : {S : Type 0} (state_of : Held S → State) (change : RecordChange) (office : OfficeValue S) (files : List MessagePartEntry) (what : ServedOrder)
+    (before after : Outputs) (status : ℕ) → office.closed ≡ true
     → Shows before after (closed_office_page what) status
-    → Tells before after status (λ cut page. WhenOpenAt state_of office office (λ s. IsOrderOutcome change (state_of office.held) office.closed (state_of office.held) (folder_of files) s what cut page)
+    → Tells before after status (λ cut page. WhenOpenAt state_of office office (λ s. IsOrderOutcome change (state_of office.held) office.closed (state_of office.held)
+    (folder_of files) s what cut page)
     × (office.closed ≡ true → page ≡ closed_office_page what))
 tells_shut {S} state_of change office files what before after status closed shows = record {
   page = closed_office_page what;
@@ -109,7 +129,8 @@ tells_shut {S} state_of change office files what before after status closed show
 }
 
 -- the page of an open office
-pub tells_open : {S : Type 0} (state_of : Held S → State) (change : RecordChange) (old new : OfficeValue S) (files : List MessagePartEntry) (what : ServedOrder) (before after : Outputs) (status : ℕ) → old.closed ≡ false
+pub tells_open : {S : Type 0} (state_of : Held S → State) (change : RecordChange) (old new : OfficeValue S) (files : List MessagePartEntry) (what : ServedOrder)
+    (before after : Outputs) (status : ℕ) → old.closed ≡ false
     → Tells before after status (λ cut page. WhenOpenAt state_of old new (λ s. IsOrderOutcome change (state_of old.held) new.closed (state_of new.held) (folder_of files) s what cut page))
     → Tells before after status (λ cut page. WhenOpenAt state_of old new (λ s. IsOrderOutcome change (state_of old.held) new.closed (state_of new.held) (folder_of files) s what cut page)
     × (old.closed ≡ true → page ≡ closed_office_page what))
@@ -162,24 +183,25 @@ order_unread file got message fault is (inl wanting) = inl (ap (λ (f : Fault). 
 order_unread file got message fault is (inr (store, none)) = subst (λ (f : Fault). IsUnread file got (asked.Refused (Office f))) (sym store) (no_order file got message is none)
 
 -- an order that wasn't decoded is refused
-pub follows_unread : {S : Type 0} (settings : ServerSettingsEntry) (state_of : Held S → State) (change : RecordChange) (old new : OfficeValue S) (got frames : List ℕ) (files : List MessagePartEntry) (what : ServedOrder)
-    → IsUnread settings.file got what → files ≡ [] → BeginsUnfailed change.had_failed what → (change.had_failed ≡ false → change.has_failed ≡ true → settings.recorded ≡ true)
+pub follows_unread : {S : Type 0} (settings : ServerSettingsEntry) (state_of : Held S → State) (change : RecordChange) (old new : OfficeValue S) (got frames : List ℕ)
+    (files : List MessagePartEntry) (what : ServedOrder)
+    → IsUnread settings.file got what → files ≡ [] → AgreesWithRecord change.had_failed what → (change.had_failed ≡ false → change.has_failed ≡ true → settings.recorded ≡ true)
     → IsResponseToOrder state_of change old files what frames new → FollowsOrder settings state_of change old got frames new
-follows_unread {S} settings state_of change old new got frames files what unread none begins fails tells =
-    record { files = files; asked = what; is = inr (unread, none); begins = begins; fails = fails; tells = tells }
+follows_unread {S} settings state_of change old new got frames files what unread none agrees fails tells =
+    record { files = files; asked = what; is = inr (unread, none); agrees = agrees; fails = fails; tells = tells }
 
 -- an order that was decoded is carried out, with the words and files that were decoded
 pub follows_read : {S : Type 0} (settings : ServerSettingsEntry) (state_of : Held S → State) (change : RecordChange) (old new : OfficeValue S) (got frames : List ℕ) (h : OrderMessage)
     (files : List MessagePart) (what : ServedOrder)
     → IsMessage got (order_message_entry h) → IsForFile settings.file (order_message_entry h) → files ≡ h.files.items
-    → AsksSo settings.whole settings.recorded (words_in (order_message_entry h)) what → BeginsUnfailed change.had_failed what
+    → AsksSo settings.whole settings.recorded (words_in (order_message_entry h)) what → AgreesWithRecord change.had_failed what
     → (change.had_failed ≡ false → change.has_failed ≡ true → settings.recorded ≡ true)
     → IsResponseToOrder state_of change old (message_part_entries files) what frames new → FollowsOrder settings state_of change old got frames new
-follows_read {S} settings state_of change old new got frames h files what message for_file same asks begins fails tells = record {
+follows_read {S} settings state_of change old new got frames h files what message for_file same asks agrees fails tells = record {
   files = message_part_entries files;
   asked = what;
   is = inl (order_message_entry h, message, for_file, ap message_part_entries same, asks);
-  begins = begins;
+  agrees = agrees;
   fails = fails;
   tells = tells;
 }
@@ -188,3 +210,9 @@ pub words_same : (h : OrderMessage) (seen : List MessagePart) (texts words : Lis
     → map (λ (t : Bor (List ℕ)). t.now) texts ≡ map (λ (p : MessagePart). p.name.now) seen → words ≡ texts → words_in (order_message_entry h) ≡ map (λ (t : Bor (List ℕ)). t.now) words
 words_same h seen texts words is read same =
     words_read h ∙ ap (map (λ (p : MessagePart). p.name.now)) (sym is) ∙ sym read ∙ ap (map (λ (t : Bor (List ℕ)). t.now)) (sym same)
+
+-- ---- the record
+
+-- an order that fails for another reason isn't refused because of its record
+pub other_failure : (failed : Bool) (fault : Fault) → AgreesWithRecord failed (asked.Refused (Office fault))
+other_failure failed fault is = absurd (cc is)

@@ -1,4 +1,5 @@
--- What a clerk is sent depends only on what that clerk may see, apart from faults and from the responses saying that the client must wait (429), that the file is gone (113) or that the second record failed (112).
+-- What a clerk is sent depends only on what that clerk may see, apart from faults and from the responses saying that the client must wait (429), that the file is gone
+-- (113) or that the second record failed (112).
 use Rattle.std.specs.Prelude.{◌≡◌, ◌⊎◌, ⊤, Bool, false, true, List, [], ◌∷◌, ◌++◌, Option, Result, Some, map, ℕ}
 use Rattle.sqlite.specs.Held.{Held}
 use Rattle.sqlite.specs.State.{HasCleanDisk, State}

@@ -19,7 +19,7 @@ use Rattle.wire.specs.Told.{IsTold}
 use Rattle.wire.specs.declared.response.Response.{Response}
 use Rattle.server.specs.Endings.{EndsIn}
 use Rattle.server.specs.RecordChanges.{RecordChange}
-use Rattle.server.specs.ServedOrders.{AsksSo, BeginsUnfailed, Follows, PrintsAt, folder_of, closed_office_page, untold}
+use Rattle.server.specs.ServedOrders.{AgreesWithRecord, AsksSo, Follows, PrintsAt, folder_of, closed_office_page, untold}
 use Rattle.server.specs.Settings.{ServerSettingsEntry}
 use Rattle.server.specs.declared.served_order.ServedOrder.{ServedOrder}
 use Rattle.server.specs.declared.served_order.ServedOrder.TheVariants as asked
@@ -36,7 +36,8 @@ sent_file file = record { name = file.name; bytes = Some file.text }
 
 -- what an order asks for, given the files sent with it; or an allocation failed
 abbrev pub AsksConsole : ServerSettingsEntry → ConsoleOrderEntry → List MessagePartEntry → ServedOrder → Type 0
-AsksConsole settings entry files what = ((files ≡ map sent_file entry.files) × AsksSo settings.whole settings.recorded (typed_words entry.words) what) ⊎ ((what ≡ asked.Refused (Office Memory)) × (files ≡ []))
+AsksConsole settings entry files what = ((files ≡ map sent_file entry.files) × AsksSo settings.whole settings.recorded (typed_words entry.words) what) ⊎
+    ((what ≡ asked.Refused (Office Memory)) × (files ≡ []))
 
 -- ---- the output
 
@@ -67,7 +68,7 @@ pub record FollowsEntry {S : Type 0} (settings : ServerSettingsEntry) (state_of 
   pub files : List MessagePartEntry
   pub asked : ServedOrder
   pub is : AsksConsole settings entry files asked
-  pub begins : BeginsUnfailed change.had_failed asked
+  pub agrees : AgreesWithRecord change.had_failed asked
   pub fails : change.had_failed ≡ false → change.has_failed ≡ true → settings.recorded ≡ true
   pub tells : Follows state_of change old files asked IsSent new
 

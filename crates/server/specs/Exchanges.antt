@@ -2,7 +2,6 @@
 use Rattle.std.specs.Prelude.{◌≡◌, ◌⊎◌, ⊤, Bool, true, false, List, [], ◌∷◌, ◌++◌, None, Option, Some, length, ℕ}
 use Rattle.sqlite.specs.Held.{Held}
 use Rattle.sqlite.specs.State.{HasCleanDisk, State}
-use Rattle.clap.specs.Words.{Text}
 use Rattle.register.specs.Machine.{after, after_one, is_accepted, step_of}
 use Rattle.register.specs.Offices.{OfficeState, empty_office}
 use Rattle.register.specs.declared.command.Request.{Request}
@@ -22,7 +21,7 @@ use Rattle.wire.specs.declared.serving.Served.{Served}
 use Rattle.wire.specs.declared.target.Resource.{Resource}
 use Rattle.desk.specs.Records.{IsRecordOf, LeavesRecord, Records}
 use Rattle.server.specs.Endings.{EndsIn}
-use Rattle.server.specs.RecordChanges.{ServedView, change_in}
+use Rattle.server.specs.RecordChanges.{RecordChange, ServedView, change_in}
 use Rattle.server.specs.ServedOrders.{FollowsOrder, IsRefusedClosed, OrderPrints}
 use Rattle.server.specs.ConsoleOrders.{FollowsConsole, IsConsoleTurnedAway, ConsolePrints}
 use Rattle.server.specs.Reads.{AreReadAt, ServedOffice, limit_after, must_wait}
@@ -168,8 +167,8 @@ pub record IsKeyingUnrecorded {S R : Type 0} (settings : ServerSettingsEntry) (v
   pub told : IsUnrecordedResponse exchange
   pub clean : HasCleanDisk (view.state_of new.office.held) → HasCleanDisk (view.state_of old.office.held)
 
--- A client that sends no order is served, unless the record has failed or fails now, and then the cache is empty afterwards if it is a clerk's keying. An order that a client sends is
--- carried out, and the cache is emptied.
+-- A client that sends no order is served. But a clerk's keying isn't sent to the office once the record has failed, and isn't acknowledged if recording it fails; then the
+-- cache is emptied, too. An order that a client sends is carried out, and the cache is emptied.
 abbrev pub ServesAsked : {S R : Type 0} → ServerSettingsEntry → ServedView S R → ServedOffice S R → Exchange → ServedOffice S R → Type 0
 ServesAsked settings view old exchange new =
     ((AsksNoOrder settings.clients exchange.got × ServesClient settings.clients view old exchange new)
@@ -299,7 +298,9 @@ pub record KeepsExchanges {S : Type 0} (state_of : Held S → State) (settings :
   pub open_at : closed ≡ false → IsOpenIn settings.recorded (after empty_office (earlier ++ answered)) (after empty_office (earlier ++ (answered ++ last))) closed st
   pub keeps : Keeps earlier (answered ++ last) (length answered) st
 
--- What is kept of requests in a second record that led to the state after earlier ones: whatever a stop leaves of it leads to the state after the accepted requests of a
--- prefix, which contains every earlier request, every one that was answered, and at most one more.
-abbrev pub KeepsInRecord : (Text → Type 0) → (Text → Type 0) → List Request → List Request → ℕ → Type 0
-KeepsInRecord old new earlier requests answered = IsRecordOf old (after empty_office earlier) → LeavesRecord new (IsAfterBeginning earlier requests answered)
+-- What is kept of requests in a second record that led to the state after earlier ones, given the requests that were answered, and the last one. Whatever a stop leaves of it
+-- leads to the state after the accepted requests of a prefix, which contains every earlier request, every one that was answered, and at most one more. If the record hasn't
+-- failed and the office is still open, the record is complete again: it leads to exactly the state after all requests that were answered.
+pub record KeepsInRecord (change : RecordChange) (closed : Bool) (earlier answered last : List Request) : Type 0 where
+  pub leaves : IsRecordOf change.old (after empty_office earlier) → LeavesRecord change.new (IsAfterBeginning earlier (answered ++ last) (length answered))
+  pub whole : change.has_failed ≡ false → closed ≡ false → IsRecordOf change.old (after empty_office earlier) → IsRecordOf change.new (after empty_office (earlier ++ answered))

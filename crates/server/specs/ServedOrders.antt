@@ -96,7 +96,8 @@ IsUnread file got what =
 -- what the given bytes ask for, given the files sent with the order
 abbrev pub AsksOrder : ServerSettingsEntry → List ℕ → List MessagePartEntry → ServedOrder → Type 0
 AsksOrder settings got files what =
-    ((h : OrderMessageEntry) × IsMessage got h × IsForFile settings.file h × (files ≡ h.files) × AsksSo settings.whole settings.recorded (words_in h) what) ⊎ (IsUnread settings.file got what × (files ≡ []))
+    ((h : OrderMessageEntry) × IsMessage got h × IsForFile settings.file h × (files ≡ h.files) × AsksSo settings.whole settings.recorded (words_in h) what) ⊎
+    (IsUnread settings.file got what × (files ≡ []))
 
 -- ---- the files
 
@@ -136,10 +137,11 @@ IsCopyTold s page =
     (page ≡ replied (copied_text (holdings_of s)))
     ⊎ ((page ≡ below (replied (copied_text (holdings_of s))) (failed CopyFailed)) ⊎ ((failure : Failure) × (page ≡ failed failure)))
 
--- a job is done only if the record hasn't failed
-abbrev pub BeginsUnfailed : Bool → ServedOrder → Type 0
-BeginsUnfailed failed (asked.Do job) = failed ≡ false
-BeginsUnfailed failed other = ⊤
+-- A job is carried out only if the record hasn't failed, and an order is refused because of its record only if that has failed.
+abbrev pub AgreesWithRecord : Bool → ServedOrder → Type 0
+AgreesWithRecord failed (asked.Do job) = failed ≡ false
+AgreesWithRecord failed (asked.Refused failure) = failure ≡ SecondRecord → failed ≡ true
+AgreesWithRecord failed other = ⊤
 
 -- The outcome of what is requested in a given state, and what it leaves of the office, whose connection was in the state `old`, and of its record. A job is carried out in
 -- the office, and each request of it that the office accepts is recorded before it is acknowledged. For a copy, the journal, or a new office from it, the office is only
@@ -184,7 +186,7 @@ pub record FollowsOrder {S : Type 0} (settings : ServerSettingsEntry) (state_of 
   pub files : List MessagePartEntry
   pub asked : ServedOrder
   pub is : AsksOrder settings got files asked
-  pub begins : BeginsUnfailed change.had_failed asked
+  pub agrees : AgreesWithRecord change.had_failed asked
   pub fails : change.had_failed ≡ false → change.has_failed ≡ true → settings.recorded ≡ true
   pub tells : IsResponseToOrder state_of change old files asked frames new
 

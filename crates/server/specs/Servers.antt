@@ -29,7 +29,7 @@ use Rattle.server.specs.ServedConnections.{AreOpen, ServedConnection, WasClosed,
 use Rattle.server.specs.declared.serve_error.ServeError.{ServeError}
 use Rattle.server.specs.declared.serve_error.ServeError.TheVariants as ended
 use Rattle.server.specs.Reads.{ServedOffice, MemoryEntry, served_office, with_none_kept}
-use Rattle.server.specs.RecordChanges.{ServedView, served_view}
+use Rattle.server.specs.RecordChanges.{ServedView, change_in, served_view}
 use Rattle.server.specs.Settings.{ServerSettingsEntry}
 use Rattle.server.specs.Servicing.{response_at}
 use Rattle.server.specs.Exchanges.{KeepsExchanges, KeepsInRecord, ServesExchange, Exchange}
@@ -136,8 +136,8 @@ IsEndedBy before later (Err ended.Rounds) = (later.failed ≡ before.failed) × 
 
 -- Connections from clients and for orders were accepted: no more clients than requested, and exactly as many if serving ended without a failure. What happened to each
 -- connection is as specified, and each was handed back, exactly once, with its stream in its final state. Their requests were processed one at a time, each in the
--- office that the previous ones left. At first the cache was empty, and no wrong code had been sent. What is kept of the requests, in the office and in its second record, is as specified, too.
--- Serving doesn't end because a new office took the place of a file that is permanently known to be whole.
+-- office that the previous ones left. At first the cache was empty, and no wrong code had been sent. What is kept of the requests, in the office and in its second
+-- record, is as specified, too. Serving doesn't end because a new office took the place of a file that is permanently known to be whole.
 pub record ServesRecorded {L S R : Type 0} (settings : ServerSettingsEntry) (stream : Stream L) (view : ServedView S R) (before later : NetworkEntry L) (most : Option ℕ)
     (old new : OfficeValue S) (recorder : R) (result : Result (Unit {0}) ServeError) (recorder_later : R) : Type 0 where
   pub all_connections : List (ServedConnection L)
@@ -158,8 +158,7 @@ pub record ServesRecorded {L S R : Type 0} (settings : ServerSettingsEntry) (str
   pub keeps : HasCleanDisk (view.state_of new.held) → old.closed ≡ false → (earlier : List Request) → IsAt (after empty_office earlier) (view.state_of old.held)
       → KeepsExchanges view.state_of settings earlier exchanges new.closed (view.state_of new.held)
   pub recorded : (clean : HasCleanDisk (view.state_of new.held)) → (is_open : old.closed ≡ false) → (earlier : List Request) → (at : IsAt (after empty_office earlier) (view.state_of old.held))
-      → KeepsInRecord (view.found recorder) (view.found recorder_later) earlier ((keeps clean is_open earlier at).answered ++ (keeps clean is_open earlier at).last)
-      (length (keeps clean is_open earlier at).answered)
+      → KeepsInRecord (change_in view recorder recorder_later) new.closed earlier (keeps clean is_open earlier at).answered (keeps clean is_open earlier at).last
 
 -- an office that is served without a second record
 abbrev pub view_without_record : {S : Type 0} → (Held S → State) → ServedView S NoRecord

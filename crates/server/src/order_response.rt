@@ -14,7 +14,7 @@ ghost use Rattle.desk.specs.Pages.{IsErrorTold, Shows, Tells, failed, outputs_of
 ghost use Rattle.server.specs.Destinations.{EndsWhereAsked, destination_at, destination_entry, folder_typed_in, is_bare_name};
 ghost use Rattle.server.specs.RecordChanges.{change_of};
 ghost use Rattle.server.specs.Settings.{settings_by};
-ghost use Rattle.server.specs.ServedOrders.{AsksSo, BeginsUnfailed, IsOrderOutcome, FollowsOrder, IsWholeMessage, IsCopyTold, IsMessage, IsResponseToOrder, folder_of, closed_office_page};
+ghost use Rattle.server.specs.ServedOrders.{AgreesWithRecord, AsksSo, IsOrderOutcome, FollowsOrder, IsWholeMessage, IsCopyTold, IsMessage, IsResponseToOrder, folder_of, closed_office_page};
 
 use crate::frame_sink::FrameSink;
 use crate::order_arrival::LENGTH;
@@ -275,7 +275,7 @@ fn unless_gone<'w, A: ServedFile>(asked: ServedOrder<'w>, served_file: &A) -> Se
 /// Returns what an order asks for. If it asks for a job and the record has failed, returns the reason for refusing it instead.
 fn unless_unrecorded<'w, R: Recorder>(asked: ServedOrder<'w>, recorder: &R) -> ServedOrder<'w>
     ensures asks { (whole : Option Bool) (words : List Text) → AsksSo whole (R.records recorder.now) words asked.entry → AsksSo whole (R.records recorder.now) words result }
-    ensures begins { BeginsUnfailed (R.failed recorder.now) result }
+    ensures agrees { (whole : Option Bool) (words : List Text) → AsksSo whole false words asked.entry → AgreesWithRecord (R.failed recorder.now) result }
 {
     match asked {
         ServedOrder::Do(job) => {
@@ -298,7 +298,7 @@ pub fn order_or_reason<'w, A: ServedFile, R: Recorder>(
     recorder: &R,
 ) -> ServedOrder<'w>
     ensures asks { AsksSo (A.whole served_file.now) (R.records recorder.now) (map (λ word. word.now) words.entry.now) result }
-    ensures begins { BeginsUnfailed (R.failed recorder.now) result }
+    ensures agrees { AgreesWithRecord (R.failed recorder.now) result }
 {
     let asked = unless_gone(served_order_by(alloc, words), served_file);
     unless_unrecorded(asked, recorder)

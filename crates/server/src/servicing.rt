@@ -194,7 +194,8 @@ fn answer_clerk<S: Alter, R: Recorder>(
     kept: &mut ServerState<R>,
 ) -> PendingResponse
     ensures served { (settings : ServerSettingsEntry) (number moment : ℕ) (got : List ℕ) → settings.recorded ≡ R.records kept.old.recorder
-        → Asks settings.clients got (http_request_entry (HttpRequest.Keying keying)) → ServesAsked settings (served_view (state S.Store) R.found R.failed) (served_office office.old (memory_entry kept.old))
+        → Asks settings.clients got (http_request_entry (HttpRequest.Keying keying)) → ServesAsked settings (served_view (state S.Store) R.found R.failed)
+        (served_office office.old (memory_entry kept.old))
         (record { listener = Listener.Clients; number = number; moment = moment; got = got; answer = result.bytes.items }) (served_office office.new (memory_entry kept.new)) }
     ensures limit { limit_entry kept.new.limit ≡ limit_entry kept.old.limit }
     ensures same { R.records kept.new.recorder ≡ R.records kept.old.recorder }

@@ -17,7 +17,7 @@ ghost use Rattle.connections.specs.Tables.{most_clients};
 ghost use Rattle.wire.specs.Gates.{settings_entry};
 ghost use Rattle.server.specs.Blind.{RecordedServersAnswerAsSeen, ServersAnswerAsSeen};
 ghost use Rattle.server.specs.Exchanges.{Exchange, KeepsExchanges, KeepsInRecord};
-ghost use Rattle.server.specs.RecordChanges.{served_view};
+ghost use Rattle.server.specs.RecordChanges.{change_of, served_view};
 ghost use Rattle.server.specs.ServedConnections.{IsSound};
 ghost use Rattle.server.specs.Reads.{served_office, memory_entry};
 ghost use Rattle.server.specs.Settings.{ServerSettingsEntry, settings_by, settings_in};
@@ -394,7 +394,8 @@ fn serve_rounds<D: Network, A: ServedFile, S: Alter, R: Recorder>(
 /// Each request that the office accepts is recorded, and flushed, before it is acknowledged. Suppose that the record led to the
 /// office's state at the beginning. Then whatever a stop leaves of the record leads to the state after the accepted requests of a
 /// prefix, which contains each earlier request, each one that was answered, and at most one more. So the record and the office
-/// differ by at most one request. Once recording a request has failed, that request isn't acknowledged (112), although it remains
+/// differ by at most one request. If recording never failed and the office is still open, the record leads to exactly the office's
+/// state again. Once recording a request has failed, that request isn't acknowledged (112), although it remains
 /// in effect, and no other is sent to the office: a clerk's keying gets 503 with fault 112, and an order for a job prints this
 /// fault. Reads continue. The recorder is returned.
 ///
@@ -414,7 +415,7 @@ pub fn serve_recorded<D: Network, A: ServedFile, S: Alter, R: Recorder>(
     ensures recorded { HasCleanDisk (state S.Store office.new.held) → office.old.closed ≡ false → (earlier : List Request) → IsAt (after empty_office earlier) (state S.Store office.old.held)
         → (exchanges : List Exchange) × (kept : KeepsExchanges (state S.Store) (settings_by A.whole (R.records recorder) server_settings.entry) earlier exchanges office.new.closed
         (state S.Store office.new.held))
-        × KeepsInRecord (R.found recorder) (R.found result.1) earlier (kept.answered ++ kept.last) (length kept.answered) }
+        × KeepsInRecord (change_of R.found R.failed recorder result.1) office.new.closed earlier kept.answered kept.last }
     ensures ended { IsEndedBy (D.known network.old) (D.known network.new) result.0 }
     ensures closed { office.old.closed ≡ true → office.new ≡ office.old }
     ensures clean { HasCleanDisk (state S.Store office.new.held) → HasCleanDisk (state S.Store office.old.held) }

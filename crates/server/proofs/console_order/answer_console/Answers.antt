@@ -5,6 +5,7 @@ use Rattle.order_protocol.specs.Messages.{message_part_entries}
 use Rattle.desk.specs.declared.lines.Failure.TheVariants.{Office}
 use Rattle.server.specs.ServedOrders.{AsksSo}
 use Rattle.server.specs.declared.served_order.ServedOrder.TheVariants as asked
+use Rattle.server.proofs.OrderLemmas.{other_failure}
 use Rattle.server.proofs.console_order.answer_console.Goals as goal
 
 pub returns-in-Err-clause-followed : goal.returns-in-Err-clause-followed
@@ -12,7 +13,7 @@ returns-in-Err-clause-followed g c = record {
   files = [];
   asked = asked.Refused (Office Memory);
   is = inr (refl, refl);
-  begins = tt;
+  agrees = other_failure (g.R.Recorder.failed c.args.recorder.now) Memory;
   fails = c.reject_out_of_memory.ensures.fails;
   tells = c.reject_out_of_memory.ensures.followed;
 }
@@ -29,7 +30,7 @@ returns-clause-followed g c =
         ap message_part_entries c.deref-2.ensures.value ∙ c.in-Ok.ensures.files,
         subst (λ (ws : List (List ℕ)). AsksSo whole recorded ws c.order_or_reason-asked.result) same c.order_or_reason-asked.ensures.asks,
       );
-      begins = c.order_or_reason-asked.ensures.begins;
+      agrees = c.order_or_reason-asked.ensures.agrees;
       fails = c.follow_asked.ensures.fails;
       tells = c.follow_asked.ensures.followed;
     }

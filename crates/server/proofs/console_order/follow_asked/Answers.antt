@@ -15,7 +15,8 @@ returns-clause-followed g c =
     let before : Outputs =
     record { out = Some c.new-out.result.bytes.items; out_failed = c.new-out.result.failed; err = Some c.new-err.result.bytes.items; err_failed = c.new-err.result.failed } in
     let after : Outputs = record { out = Some did.new.out.bytes.items; out_failed = did.new.out.failed; err = Some did.new.err.bytes.items; err_failed = did.new.err.failed } in
-    follows_asked (state g.S.Store) (change_of g.R.Recorder.found g.R.Recorder.failed c.args.recorder.now c.do_asked-status.new.recorder) c.args.office.now did.new.office (message_part_entries c.args.order.now.attached.files.now) c.args.order.now.asked.now before after did.result
+    follows_asked (state g.S.Store) (change_of g.R.Recorder.found g.R.Recorder.failed c.args.recorder.now c.do_asked-status.new.recorder) c.args.office.now did.new.office
+    (message_part_entries c.args.order.now.attached.files.now) c.args.order.now.asked.now before after did.result
     (λ (cut : Cut) (page : Page). HasPrinted cut page response)
     (none_told before (ap Some c.new-out.ensures.bytes) c.new-out.ensures.failed (ap Some c.new-err.ensures.bytes) c.new-err.ensures.failed)
     (λ cut page shown. record {

@@ -1,5 +1,5 @@
 -- Proof that `order_or_reason` meets its contract.
-use Rattle.std.proofs.Common.{Bor, List, map, ℕ}
+use Rattle.std.proofs.Common.{Bor, List, false, map, ℕ}
 use Rattle.server.proofs.order_response.order_or_reason.Goals as goal
 
 pub returns-clause-asks : goal.returns-clause-asks
@@ -8,3 +8,9 @@ returns-clause-asks g c =
     let recorded = g.R.Recorder.records c.args.recorder.now in
     let words = map (λ (t : Bor (List ℕ)). t.now) c.args.words.now in
     c.unless_unrecorded.ensures.asks whole words (c.unless_gone-asked.ensures words recorded (c.served_order_by.ensures whole recorded))
+
+pub returns-clause-agrees : goal.returns-clause-agrees
+returns-clause-agrees g c =
+    let whole = g.A.ServedFile.whole c.args.served_file.now in
+    let words = map (λ (t : Bor (List ℕ)). t.now) c.args.words.now in
+    c.unless_unrecorded.ensures.agrees whole words (c.unless_gone-asked.ensures words false (c.served_order_by.ensures whole false))

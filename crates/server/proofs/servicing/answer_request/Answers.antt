@@ -16,7 +16,8 @@ use Rattle.server.proofs.servicing.answer_request.Goals as goal
 
 pub returns-in_default-clause-served : goal.returns-in_default-clause-served
 returns-in_default-clause-served g c = λ number moment.
-    unread_served (settings_by g.A.ServedFile.whole (g.R.Recorder.records c.args.kept.now.recorder) c.args.server_settings) (served_view (state g.S.Store) g.R.Recorder.found g.R.Recorder.failed) c.args.office.now (memory_entry c.args.kept.now)
+    unread_served (settings_by g.A.ServedFile.whole (g.R.Recorder.records c.args.kept.now.recorder) c.args.server_settings)
+    (served_view (state g.S.Store) g.R.Recorder.found g.R.Recorder.failed) c.args.office.now (memory_entry c.args.kept.now)
     (record { reads = reads_in c.empty.new.self; limit = limit_entry c.args.kept.now.limit; recorder = c.args.kept.now.recorder }) number moment c.args.got.now
     c.no_memory_response.result.bytes.items c.args.parsed c.requires c.empty.ensures refl c.no_memory_response.ensures.told
 
@@ -41,7 +42,8 @@ returns-in-Denied-clause-served g c = λ number moment.
     let asks = subst (λ (a : HttpRequest). Asks its c.args.got.now (http_request_entry a)) c.in-Denied.is (c.in-Ok.ensures c.requires) in
     inl (inl (
       asks_no_order its c.args.got.now asked asks refl,
-      served_anew its (served_view (state g.S.Store) g.R.Recorder.found g.R.Recorder.failed) c.args.office.now did.new.office kept kept number moment c.args.got.now asked did.result.0.items asks tt did.ensures.answers
+      served_anew its (served_view (state g.S.Store) g.R.Recorder.found g.R.Recorder.failed) c.args.office.now did.new.office kept kept number moment c.args.got.now asked
+          did.result.0.items asks tt did.ensures.answers
           (keeps_same its (served_view (state g.S.Store) g.R.Recorder.found g.R.Recorder.failed) c.args.office.now did.new.office kept c.args.got.now asked asks tt (did.ensures.only tt)) refl,
     ))
 
@@ -54,7 +56,8 @@ returns-in-ClerkPage-clause-served g c = λ number moment.
     let asks = subst (λ (a : HttpRequest). Asks its c.args.got.now (http_request_entry a)) c.in-ClerkPage.is (c.in-Ok.ensures c.requires) in
     inl (inl (
       asks_no_order its c.args.got.now asked asks refl,
-      served_anew its (served_view (state g.S.Store) g.R.Recorder.found g.R.Recorder.failed) c.args.office.now did.new.office kept kept number moment c.args.got.now asked did.result.0.items asks tt did.ensures.answers
+      served_anew its (served_view (state g.S.Store) g.R.Recorder.found g.R.Recorder.failed) c.args.office.now did.new.office kept kept number moment c.args.got.now asked
+          did.result.0.items asks tt did.ensures.answers
           (keeps_same its (served_view (state g.S.Store) g.R.Recorder.found g.R.Recorder.failed) c.args.office.now did.new.office kept c.args.got.now asked asks tt (did.ensures.only tt)) refl,
     ))
 
@@ -67,7 +70,8 @@ returns-in-ConsolePage-clause-served g c = λ number moment.
     let asks = subst (λ (a : HttpRequest). Asks its c.args.got.now (http_request_entry a)) c.in-ConsolePage.is (c.in-Ok.ensures c.requires) in
     inl (inl (
       asks_no_order its c.args.got.now asked asks refl,
-      served_anew its (served_view (state g.S.Store) g.R.Recorder.found g.R.Recorder.failed) c.args.office.now did.new.office kept kept number moment c.args.got.now asked did.result.0.items asks tt did.ensures.answers
+      served_anew its (served_view (state g.S.Store) g.R.Recorder.found g.R.Recorder.failed) c.args.office.now did.new.office kept kept number moment c.args.got.now asked
+          did.result.0.items asks tt did.ensures.answers
           (keeps_same its (served_view (state g.S.Store) g.R.Recorder.found g.R.Recorder.failed) c.args.office.now did.new.office kept c.args.got.now asked asks tt (did.ensures.only tt)) refl,
     ))
 
@@ -80,7 +84,8 @@ returns-in-Public-clause-served g c = λ number moment.
     let asks = subst (λ (a : HttpRequest). Asks its c.args.got.now (http_request_entry a)) c.in-Public.is (c.in-Ok.ensures c.requires) in
     inl (inl (
       asks_no_order its c.args.got.now asked asks refl,
-      served_anew its (served_view (state g.S.Store) g.R.Recorder.found g.R.Recorder.failed) c.args.office.now did.new.office kept kept number moment c.args.got.now asked did.result.0.items asks tt did.ensures.answers
+      served_anew its (served_view (state g.S.Store) g.R.Recorder.found g.R.Recorder.failed) c.args.office.now did.new.office kept kept number moment c.args.got.now asked
+          did.result.0.items asks tt did.ensures.answers
           (keeps_same its (served_view (state g.S.Store) g.R.Recorder.found g.R.Recorder.failed) c.args.office.now did.new.office kept c.args.got.now asked asks tt (did.ensures.only tt)) refl,
     ))
 

@@ -58,7 +58,8 @@ returns-in-Ok-Some-clause-turn g c =
     let behind = served_office answered.new.office (memory_entry answered.new.kept) in
     let none = none_from c.args.client.answer (sym c.is_some.ensures ∙ c.if-is_some.false) in
     attends_turn stream settings (served_view (state g.S.Store) g.R.Recorder.found g.R.Recorder.failed) c.args.now c.begin_answer.result.1 c.args.client new at behind c.begin_answer.ensures.apart
-    (has_turn stream settings (served_view (state g.S.Store) g.R.Recorder.found g.R.Recorder.failed) c.args.now c.args.client mid new at behind none received.receives received.same.0.0 received.same.0.1
+    (has_turn stream settings (served_view (state g.S.Store) g.R.Recorder.found g.R.Recorder.failed) c.args.now c.args.client mid new at behind none received.receives
+    received.same.0.0 received.same.0.1
     (subst (λ (d : Listener). HasComeAt d settings (g.L.Stream.held mid.stream) mid.got.items) (sym c.in-Clients.is) (rw c.in-Ok-Some.field-0-is at received.come).0) (
       record { listener = Clients; number = mid.number; moment = c.args.now; got = mid.got.items; answer = answered.result.bytes.items },
       sym (received.same.0.0 ∙ c.in-Clients.is),

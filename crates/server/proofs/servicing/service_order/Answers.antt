@@ -35,7 +35,8 @@ returns-in-Ok-true-clause-turn g c =
     let at = served_office c.args.office.now (memory_entry c.args.kept.now) in
     let behind = served_office answered.new.office (record { reads = reads_in c.empty.new.self; limit = limit_entry c.args.kept.now.limit; recorder = answered.new.recorder }) in
     attends_turn stream settings (served_view (state g.S.Store) g.R.Recorder.found g.R.Recorder.failed) c.args.now c.begin_answer.result.1 c.args.client new at behind c.begin_answer.ensures.apart
-    (has_turn stream settings (served_view (state g.S.Store) g.R.Recorder.found g.R.Recorder.failed) c.args.now c.args.client mid new at behind c.requires.unanswered received.receives received.same.0.0 received.same.0.1
+    (has_turn stream settings (served_view (state g.S.Store) g.R.Recorder.found g.R.Recorder.failed) c.args.now c.args.client mid new at behind c.requires.unanswered
+    received.receives received.same.0.0 received.same.0.1
     (subst (λ (d : Listener). HasComeAt d settings (g.L.Stream.held mid.stream) mid.got.items) (sym c.requires.listener) (received.come (c.in-Ok-true.is ∙ ap Ok c.in-Ok-true.field-0-test))) (
       record { listener = Orders; number = mid.number; moment = c.args.now; got = mid.got.items; answer = answered.result.1.bytes.items },
       sym (received.same.0.0 ∙ c.requires.listener),
@@ -43,7 +44,8 @@ returns-in-Ok-true-clause-turn g c =
       refl,
       refl,
       (
-        subst (λ (xs : List ℕ). FollowsOrder settings (state g.S.Store) (change_of g.R.Recorder.found g.R.Recorder.failed c.args.kept.now.recorder answered.new.recorder) c.args.office.now xs answered.result.1.bytes.items answered.new.office) c.as_slice.ensures.value answered.ensures.followed,
+        subst (λ (xs : List ℕ). FollowsOrder settings (state g.S.Store) (change_of g.R.Recorder.found g.R.Recorder.failed c.args.kept.now.recorder answered.new.recorder)
+            c.args.office.now xs answered.result.1.bytes.items answered.new.office) c.as_slice.ensures.value answered.ensures.followed,
         c.empty.ensures,
         refl,
       ),

@@ -31,7 +31,8 @@ returns-in_default-new-clause-recorded g c = λ clean is_open earlier at.
 
 pub serve_rounds-ended-requires-clause-sound : goal.serve_rounds-ended-requires-clause-sound
 serve_rounds-ended-requires-clause-sound g c =
-    sound_empty (settings_by g.A.ServedFile.whole (g.R.Recorder.records c.new-kept.result.recorder) c.args.server_settings) (stream_of g.D.Stream.Stream.held g.D.Stream.Stream.taken g.D.Stream.Stream.failed)
+    sound_empty (settings_by g.A.ServedFile.whole (g.R.Recorder.records c.new-kept.result.recorder) c.args.server_settings)
+    (stream_of g.D.Stream.Stream.held g.D.Stream.Stream.taken g.D.Stream.Stream.failed)
     c.in-Ok.table c.in-Ok.ensures.0 c.in-Ok.ensures.1
 
 pub returns-clause-served : goal.returns-clause-served
@@ -64,7 +65,8 @@ pub returns-clause-closed : goal.returns-clause-closed
 returns-clause-closed g c =
     let known = g.D.Network.known in
     let went = c.serve_rounds-ended in
-    serving_closed (settings_by g.A.ServedFile.whole (g.R.Recorder.records c.new-kept.result.recorder) c.args.server_settings) (stream_of g.D.Stream.Stream.held g.D.Stream.Stream.taken g.D.Stream.Stream.failed)
+    serving_closed (settings_by g.A.ServedFile.whole (g.R.Recorder.records c.new-kept.result.recorder) c.args.server_settings)
+    (stream_of g.D.Stream.Stream.held g.D.Stream.Stream.taken g.D.Stream.Stream.failed)
     (served_view (state g.S.Store) g.R.Recorder.found g.R.Recorder.failed) (known c.args.network.now) (known went.new.network) c.in-Ok.table went.new.table c.args.office.now
     (memory_entry c.new-kept.result) (served_office went.new.office (memory_entry went.new.kept)) went.ensures.goes_on
 
@@ -72,6 +74,7 @@ pub returns-clause-clean : goal.returns-clause-clean
 returns-clause-clean g c =
     let known = g.D.Network.known in
     let went = c.serve_rounds-ended in
-    serving_clean (settings_by g.A.ServedFile.whole (g.R.Recorder.records c.new-kept.result.recorder) c.args.server_settings) (stream_of g.D.Stream.Stream.held g.D.Stream.Stream.taken g.D.Stream.Stream.failed)
+    serving_clean (settings_by g.A.ServedFile.whole (g.R.Recorder.records c.new-kept.result.recorder) c.args.server_settings)
+    (stream_of g.D.Stream.Stream.held g.D.Stream.Stream.taken g.D.Stream.Stream.failed)
     (served_view (state g.S.Store) g.R.Recorder.found g.R.Recorder.failed) (known c.args.network.now) (known went.new.network) c.in-Ok.table went.new.table c.args.office.now
     (memory_entry c.new-kept.result) (served_office went.new.office (memory_entry went.new.kept)) went.ensures.goes_on

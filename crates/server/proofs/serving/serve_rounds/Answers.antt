@@ -17,7 +17,8 @@ loop-round-init g c =
     let known = g.D.Network.known c.args.network.now in
     let table = c.args.table.now in
     record {
-      goes_on = serves_still settings stream (served_view (state g.S.Store) g.R.Recorder.found g.R.Recorder.failed) known known table (served_office c.args.office.now (memory_entry c.args.kept.now)) refl;
+      goes_on = serves_still settings stream (served_view (state g.S.Store) g.R.Recorder.found g.R.Recorder.failed) known known table
+          (served_office c.args.office.now (memory_entry c.args.kept.now)) refl;
       few = λ few. few;
       within = c.requires.within;
       records_same = refl;
@@ -38,8 +39,10 @@ pub returns-in_default-clause-goes_on : goal.returns-in_default-clause-goes_on
 returns-in_default-clause-goes_on g c =
     let known = g.D.Network.known in
     let went = c.service_ready in
-    serves_then (settings_by g.A.ServedFile.whole (g.R.Recorder.records c.args.kept.now.recorder) c.args.serving.server_settings) (stream_of g.D.Stream.Stream.held g.D.Stream.Stream.taken g.D.Stream.Stream.failed)
-    (served_view (state g.S.Store) g.R.Recorder.found g.R.Recorder.failed) (known c.args.network.now) (known c.loop-round.network) (known went.new.network) c.args.table.now c.loop-round.table went.new.table
+    serves_then (settings_by g.A.ServedFile.whole (g.R.Recorder.records c.args.kept.now.recorder) c.args.serving.server_settings)
+    (stream_of g.D.Stream.Stream.held g.D.Stream.Stream.taken g.D.Stream.Stream.failed)
+    (served_view (state g.S.Store) g.R.Recorder.found g.R.Recorder.failed) (known c.args.network.now) (known c.loop-round.network) (known went.new.network) c.args.table.now
+    c.loop-round.table went.new.table
     (served_office c.args.office.now (memory_entry c.args.kept.now)) (served_office c.loop-round.office (memory_entry c.loop-round.kept))
     (served_office went.new.office (memory_entry went.new.kept)) c.loop-round.invariant.goes_on
     (subst (λ (b : Bool). ServesFrom (settings_by g.A.ServedFile.whole b c.args.serving.server_settings)
@@ -51,8 +54,10 @@ pub returns-then-has_moved-clause-goes_on : goal.returns-then-has_moved-clause-g
 returns-then-has_moved-clause-goes_on g c =
     let known = g.D.Network.known in
     let went = c.service_ready in
-    serves_then (settings_by g.A.ServedFile.whole (g.R.Recorder.records c.args.kept.now.recorder) c.args.serving.server_settings) (stream_of g.D.Stream.Stream.held g.D.Stream.Stream.taken g.D.Stream.Stream.failed)
-    (served_view (state g.S.Store) g.R.Recorder.found g.R.Recorder.failed) (known c.args.network.now) (known c.loop-round.network) (known went.new.network) c.args.table.now c.loop-round.table went.new.table
+    serves_then (settings_by g.A.ServedFile.whole (g.R.Recorder.records c.args.kept.now.recorder) c.args.serving.server_settings)
+    (stream_of g.D.Stream.Stream.held g.D.Stream.Stream.taken g.D.Stream.Stream.failed)
+    (served_view (state g.S.Store) g.R.Recorder.found g.R.Recorder.failed) (known c.args.network.now) (known c.loop-round.network) (known went.new.network) c.args.table.now
+    c.loop-round.table went.new.table
     (served_office c.args.office.now (memory_entry c.args.kept.now)) (served_office c.loop-round.office (memory_entry c.loop-round.kept))
     (served_office went.new.office (memory_entry went.new.kept)) c.loop-round.invariant.goes_on
     (subst (λ (b : Bool). ServesFrom (settings_by g.A.ServedFile.whole b c.args.serving.server_settings)
@@ -72,10 +77,13 @@ loop-round-preserved g c =
     let calls = c.in-Ok.ensures.called in
     let round = subst (λ (b : Bool). IsRound (Ok b) (known went.new.network) (known ended.new.network)) c.in-Ok-false.field-0-test c.in-Ok-false.ensures.round in
     record {
-      goes_on = serves_more settings stream (served_view (state g.S.Store) g.R.Recorder.found g.R.Recorder.failed) (known c.args.network.now) (known went.new.network) (known ended.new.network) c.args.table.now went.new.table ended.new.table
+      goes_on = serves_more settings stream (served_view (state g.S.Store) g.R.Recorder.found g.R.Recorder.failed) (known c.args.network.now) (known went.new.network)
+          (known ended.new.network) c.args.table.now went.new.table ended.new.table
           (served_office c.args.office.now (memory_entry c.args.kept.now)) behind
-          (serves_then settings stream (served_view (state g.S.Store) g.R.Recorder.found g.R.Recorder.failed) (known c.args.network.now) (known c.loop-round.network) (known went.new.network) c.args.table.now c.loop-round.table went.new.table
-          (served_office c.args.office.now (memory_entry c.args.kept.now)) (served_office c.loop-round.office (memory_entry c.loop-round.kept)) behind so_far.goes_on (subst (λ (b : Bool). ServesFrom (settings_by g.A.ServedFile.whole b c.args.serving.server_settings)
+          (serves_then settings stream (served_view (state g.S.Store) g.R.Recorder.found g.R.Recorder.failed) (known c.args.network.now) (known c.loop-round.network)
+          (known went.new.network) c.args.table.now c.loop-round.table went.new.table
+          (served_office c.args.office.now (memory_entry c.args.kept.now)) (served_office c.loop-round.office (memory_entry c.loop-round.kept)) behind so_far.goes_on
+          (subst (λ (b : Bool). ServesFrom (settings_by g.A.ServedFile.whole b c.args.serving.server_settings)
           (stream_of g.D.Stream.Stream.held g.D.Stream.Stream.taken g.D.Stream.Stream.failed) (served_view (state g.S.Store) g.R.Recorder.found g.R.Recorder.failed)
           (known c.loop-round.network) (known went.new.network) c.loop-round.table went.new.table (served_office c.loop-round.office (memory_entry c.loop-round.kept))
           (served_office went.new.office (memory_entry went.new.kept))) c.loop-round.invariant.records_same went.ensures.goes_on))
@@ -95,10 +103,13 @@ returns-in-Ok-true-clause-goes_on g c =
     let went = c.service_ready in
     let ended = c.end_round in
     let behind = served_office went.new.office (memory_entry went.new.kept) in
-    serves_more settings stream (served_view (state g.S.Store) g.R.Recorder.found g.R.Recorder.failed) (known c.args.network.now) (known went.new.network) (known ended.new.network) c.args.table.now went.new.table ended.new.table
+    serves_more settings stream (served_view (state g.S.Store) g.R.Recorder.found g.R.Recorder.failed) (known c.args.network.now) (known went.new.network)
+    (known ended.new.network) c.args.table.now went.new.table ended.new.table
     (served_office c.args.office.now (memory_entry c.args.kept.now)) behind
-    (serves_then settings stream (served_view (state g.S.Store) g.R.Recorder.found g.R.Recorder.failed) (known c.args.network.now) (known c.loop-round.network) (known went.new.network) c.args.table.now c.loop-round.table went.new.table
-    (served_office c.args.office.now (memory_entry c.args.kept.now)) (served_office c.loop-round.office (memory_entry c.loop-round.kept)) behind c.loop-round.invariant.goes_on (subst (λ (b : Bool). ServesFrom (settings_by g.A.ServedFile.whole b c.args.serving.server_settings)
+    (serves_then settings stream (served_view (state g.S.Store) g.R.Recorder.found g.R.Recorder.failed) (known c.args.network.now) (known c.loop-round.network)
+    (known went.new.network) c.args.table.now c.loop-round.table went.new.table
+    (served_office c.args.office.now (memory_entry c.args.kept.now)) (served_office c.loop-round.office (memory_entry c.loop-round.kept)) behind
+    c.loop-round.invariant.goes_on (subst (λ (b : Bool). ServesFrom (settings_by g.A.ServedFile.whole b c.args.serving.server_settings)
     (stream_of g.D.Stream.Stream.held g.D.Stream.Stream.taken g.D.Stream.Stream.failed) (served_view (state g.S.Store) g.R.Recorder.found g.R.Recorder.failed)
     (known c.loop-round.network) (known went.new.network) c.loop-round.table went.new.table (served_office c.loop-round.office (memory_entry c.loop-round.kept))
     (served_office went.new.office (memory_entry went.new.kept))) c.loop-round.invariant.records_same went.ensures.goes_on))
@@ -112,10 +123,13 @@ returns-in-Err-clause-goes_on g c =
     let went = c.service_ready in
     let ended = c.end_round in
     let behind = served_office went.new.office (memory_entry went.new.kept) in
-    serves_more settings stream (served_view (state g.S.Store) g.R.Recorder.found g.R.Recorder.failed) (known c.args.network.now) (known went.new.network) (known ended.new.network) c.args.table.now went.new.table ended.new.table
+    serves_more settings stream (served_view (state g.S.Store) g.R.Recorder.found g.R.Recorder.failed) (known c.args.network.now) (known went.new.network)
+    (known ended.new.network) c.args.table.now went.new.table ended.new.table
     (served_office c.args.office.now (memory_entry c.args.kept.now)) behind
-    (serves_then settings stream (served_view (state g.S.Store) g.R.Recorder.found g.R.Recorder.failed) (known c.args.network.now) (known c.loop-round.network) (known went.new.network) c.args.table.now c.loop-round.table went.new.table
-    (served_office c.args.office.now (memory_entry c.args.kept.now)) (served_office c.loop-round.office (memory_entry c.loop-round.kept)) behind c.loop-round.invariant.goes_on (subst (λ (b : Bool). ServesFrom (settings_by g.A.ServedFile.whole b c.args.serving.server_settings)
+    (serves_then settings stream (served_view (state g.S.Store) g.R.Recorder.found g.R.Recorder.failed) (known c.args.network.now) (known c.loop-round.network)
+    (known went.new.network) c.args.table.now c.loop-round.table went.new.table
+    (served_office c.args.office.now (memory_entry c.args.kept.now)) (served_office c.loop-round.office (memory_entry c.loop-round.kept)) behind
+    c.loop-round.invariant.goes_on (subst (λ (b : Bool). ServesFrom (settings_by g.A.ServedFile.whole b c.args.serving.server_settings)
     (stream_of g.D.Stream.Stream.held g.D.Stream.Stream.taken g.D.Stream.Stream.failed) (served_view (state g.S.Store) g.R.Recorder.found g.R.Recorder.failed)
     (known c.loop-round.network) (known went.new.network) c.loop-round.table went.new.table (served_office c.loop-round.office (memory_entry c.loop-round.kept))
     (served_office went.new.office (memory_entry went.new.kept))) c.loop-round.invariant.records_same went.ensures.goes_on))

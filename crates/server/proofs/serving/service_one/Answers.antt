@@ -26,9 +26,11 @@ returns-in-Waits-clause-went g c =
     let known = g.D.Network.known in
     let at = served_office c.args.office.now (memory_entry c.args.kept.now) in
     let behind = served_office went.new.office (memory_entry went.new.kept) in
-    went_at stream (is_some settings.clients.gate) settings (served_view (state g.S.Store) g.R.Recorder.found g.R.Recorder.failed) c.in-Ok.now (Ok None) (known c.args.network.now) (known c.time_if_gated.new.network)
+    went_at stream (is_some settings.clients.gate) settings (served_view (state g.S.Store) g.R.Recorder.found g.R.Recorder.failed) c.in-Ok.now (Ok None)
+    (known c.args.network.now) (known c.time_if_gated.new.network)
     (known c.time_if_gated.new.network) c.args.client went.result.0 at behind c.in-Ok.ensures
-    (went_waits stream settings (served_view (state g.S.Store) g.R.Recorder.found g.R.Recorder.failed) c.in-Ok.now went.result.1 c.args.client went.result.0 at behind (known c.time_if_gated.new.network)
+    (went_waits stream settings (served_view (state g.S.Store) g.R.Recorder.found g.R.Recorder.failed) c.in-Ok.now went.result.1 c.args.client went.result.0 at behind
+    (known c.time_if_gated.new.network)
     went.ensures.turn c.in-Waits.is went.ensures.same.2)
 
 pub returns-in-Ok-now-clause-went : goal.returns-in-Ok-now-clause-went
@@ -40,9 +42,11 @@ returns-in-Ok-now-clause-went g c =
     let at = served_office c.args.office.now (memory_entry c.args.kept.now) in
     let behind = served_office went.new.office (memory_entry went.new.kept) in
     let new : Client _ = record went.result.0 { since = c.in-Ok-now.later } in
-    went_at stream (is_some settings.clients.gate) settings (served_view (state g.S.Store) g.R.Recorder.found g.R.Recorder.failed) c.in-Ok.now (Ok None) (known c.args.network.now) (known c.time_if_gated.new.network)
+    went_at stream (is_some settings.clients.gate) settings (served_view (state g.S.Store) g.R.Recorder.found g.R.Recorder.failed) c.in-Ok.now (Ok None)
+    (known c.args.network.now) (known c.time_if_gated.new.network)
     (known c.now.new.self) c.args.client new at behind c.in-Ok.ensures
-    (went_served stream settings (served_view (state g.S.Store) g.R.Recorder.found g.R.Recorder.failed) c.in-Ok.now went.result.1 c.args.client went.result.0 new at behind (known c.time_if_gated.new.network)
+    (went_served stream settings (served_view (state g.S.Store) g.R.Recorder.found g.R.Recorder.failed) c.in-Ok.now went.result.1 c.args.client went.result.0 new at behind
+    (known c.time_if_gated.new.network)
     (known c.now.new.self) went.ensures.turn c.in-Served.is refl c.in-Ok-now.ensures)
 
 pub returns-in-Err-clause-went : goal.returns-in-Err-clause-went

@@ -24,7 +24,8 @@ loop-init g c =
     let known = g.D.Network.known c.args.network.now in
     let table = c.args.table.now in
     record {
-      goes_on = serves_still settings stream (served_view (state g.S.Store) g.R.Recorder.found g.R.Recorder.failed) known known table (served_office c.args.office.now (memory_entry c.args.kept.now)) refl;
+      goes_on = serves_still settings stream (served_view (state g.S.Store) g.R.Recorder.found g.R.Recorder.failed) known known table
+          (served_office c.args.office.now (memory_entry c.args.kept.now)) refl;
       came = refl;
       counted = refl;
       within = c.requires.within;
@@ -41,9 +42,11 @@ loop-preserved-in_default-place_of_number g c =
     let between = served_office c.loop.office (memory_entry c.loop.kept) in
     let named = c.next_ready.ensures ∙ ap (λ (o : Option ℕ). after_ready o (known c.loop.network)) c.in-Some.is in
     record {
-      goes_on = serves_then settings stream (served_view (state g.S.Store) g.R.Recorder.found g.R.Recorder.failed) (known c.args.network.now) (known c.loop.network) (known c.next_ready.new.self) c.args.table.now c.loop.table c.loop.table
+      goes_on = serves_then settings stream (served_view (state g.S.Store) g.R.Recorder.found g.R.Recorder.failed) (known c.args.network.now) (known c.loop.network)
+          (known c.next_ready.new.self) c.args.table.now c.loop.table c.loop.table
           (served_office c.args.office.now (memory_entry c.args.kept.now)) between between c.loop.invariant.goes_on
-          (serves_nobody settings stream (served_view (state g.S.Store) g.R.Recorder.found g.R.Recorder.failed) c.in-Some.number (known c.loop.network) (known c.next_ready.new.self) c.loop.table between named);
+          (serves_nobody settings stream (served_view (state g.S.Store) g.R.Recorder.found g.R.Recorder.failed) c.in-Some.number (known c.loop.network)
+          (known c.next_ready.new.self) c.loop.table between named);
       came = c.loop.invariant.came;
       counted = c.loop.invariant.counted;
       within = c.loop.invariant.within;
@@ -96,10 +99,12 @@ loop-preserved g c =
     let named = c.next_ready.ensures ∙ ap (λ (o : Option ℕ). after_ready o (known c.loop.network)) c.in-Some.is in
     let within = subst (λ (clients : List (Client _)). place < length clients) c.as_slice.ensures.value c.in-Some-place_of_number.ensures.within in
     let numbered = subst (λ (clients : List (Client _)). IsNumbered clients place c.in-Some.number) c.as_slice.ensures.value c.in-Some-place_of_number.ensures.his in
-    let serviced = subst (λ (r : Result (Option CloseReason) Broken). WasServiced (is_some settings.clients.gate) settings stream (served_view (state g.S.Store) g.R.Recorder.found g.R.Recorder.failed) r
+    let serviced = subst (λ (r : Result (Option CloseReason) Broken). WasServiced (is_some settings.clients.gate) settings stream
+    (served_view (state g.S.Store) g.R.Recorder.found g.R.Recorder.failed) r
     (known c.next_ready.new.self) (known went.new.network) out.result went.result.0 between behind)
     c.in-Ok.is
-    (subst (λ (b : Bool). WasServiced (is_some settings.clients.gate) (settings_by g.A.ServedFile.whole b c.args.server_settings) stream (served_view (state g.S.Store) g.R.Recorder.found g.R.Recorder.failed) went.result.1
+    (subst (λ (b : Bool). WasServiced (is_some settings.clients.gate) (settings_by g.A.ServedFile.whole b c.args.server_settings) stream
+    (served_view (state g.S.Store) g.R.Recorder.found g.R.Recorder.failed) went.result.1
     (known c.next_ready.new.self) (known went.new.network) out.result went.result.0 between behind) c.loop.invariant.records_same went.ensures.went) in
     let well = called_well stream (map response_at serviced.exchanges) out.result went.result.0 c.in-Ok.reason serviced.gate (known c.next_ready.new.self) (known went.new.network) serviced.comes in
     let still = settled_still c.in-Ok.reason place went.result.0 (known went.new.network) (known settled.new.network) out.new.self settled.new.table settled.ensures.settles in
@@ -107,7 +112,8 @@ loop-preserved g c =
     record {
       goes_on = serves_then settings stream (served_view (state g.S.Store) g.R.Recorder.found g.R.Recorder.failed) (known c.args.network.now) (known c.loop.network)
           (known settled.new.network) c.args.table.now c.loop.table settled.new.table at between behind so_far.goes_on
-          (serves_settled settings stream (served_view (state g.S.Store) g.R.Recorder.found g.R.Recorder.failed) (known c.loop.network) (known c.next_ready.new.self) c.loop.table place c.in-Some.number
+          (serves_settled settings stream (served_view (state g.S.Store) g.R.Recorder.found g.R.Recorder.failed) (known c.loop.network) (known c.next_ready.new.self)
+          c.loop.table place c.in-Some.number
           out.result went.result.0 between behind named within out.ensures.client numbered
           went.ensures.same.0 went.ensures.same.1 went.ensures.is
           c.in-Ok.reason (known went.new.network) (known settled.new.network) out.new.self settled.new.table serviced out.ensures.clients out.ensures.came out.ensures.counted settled.ensures.settles);
@@ -134,14 +140,18 @@ returns-in_default-next-clause-goes_on g c =
     let named = c.next_ready.ensures ∙ ap (λ (o : Option ℕ). after_ready o (known c.loop.network)) c.in-Some.is in
     let within = subst (λ (clients : List (Client _)). place < length clients) c.as_slice.ensures.value c.in-Some-place_of_number.ensures.within in
     let numbered = subst (λ (clients : List (Client _)). IsNumbered clients place c.in-Some.number) c.as_slice.ensures.value c.in-Some-place_of_number.ensures.his in
-    let serviced = subst (λ (r : Result (Option CloseReason) Broken). WasServiced (is_some settings.clients.gate) settings stream (served_view (state g.S.Store) g.R.Recorder.found g.R.Recorder.failed) r
+    let serviced = subst (λ (r : Result (Option CloseReason) Broken). WasServiced (is_some settings.clients.gate) settings stream
+    (served_view (state g.S.Store) g.R.Recorder.found g.R.Recorder.failed) r
     (known c.next_ready.new.self) (known went.new.network) out.result went.result.0 between behind)
     c.in_default-next.is
-    (subst (λ (b : Bool). WasServiced (is_some settings.clients.gate) (settings_by g.A.ServedFile.whole b c.args.server_settings) stream (served_view (state g.S.Store) g.R.Recorder.found g.R.Recorder.failed) went.result.1
+    (subst (λ (b : Bool). WasServiced (is_some settings.clients.gate) (settings_by g.A.ServedFile.whole b c.args.server_settings) stream
+    (served_view (state g.S.Store) g.R.Recorder.found g.R.Recorder.failed) went.result.1
     (known c.next_ready.new.self) (known went.new.network) out.result went.result.0 between behind) c.loop.invariant.records_same went.ensures.went) in
-    serves_then settings stream (served_view (state g.S.Store) g.R.Recorder.found g.R.Recorder.failed) (known c.args.network.now) (known c.loop.network) (known went.new.network) c.args.table.now c.loop.table back.new.self
+    serves_then settings stream (served_view (state g.S.Store) g.R.Recorder.found g.R.Recorder.failed) (known c.args.network.now) (known c.loop.network)
+    (known went.new.network) c.args.table.now c.loop.table back.new.self
     at between behind c.loop.invariant.goes_on
-    (serves_stops settings stream (served_view (state g.S.Store) g.R.Recorder.found g.R.Recorder.failed) (known c.loop.network) (known c.next_ready.new.self) c.loop.table place c.in-Some.number out.result
+    (serves_stops settings stream (served_view (state g.S.Store) g.R.Recorder.found g.R.Recorder.failed) (known c.loop.network) (known c.next_ready.new.self) c.loop.table
+    place c.in-Some.number out.result
     went.result.0 between behind named within out.ensures.client numbered
     went.ensures.same.0 went.ensures.same.1 went.ensures.is
     c.in_default-next.field-0 (known went.new.network) out.new.self back.new.self serviced out.ensures.clients back.ensures.clients
@@ -156,10 +166,12 @@ returns-in_default-next-clause-called g c =
     let out = c.remove_at-client in
     let went = c.service_one-client in
     let behind = served_office went.new.office (memory_entry went.new.kept) in
-    let serviced = subst (λ (r : Result (Option CloseReason) Broken). WasServiced (is_some settings.clients.gate) settings stream (served_view (state g.S.Store) g.R.Recorder.found g.R.Recorder.failed) r
+    let serviced = subst (λ (r : Result (Option CloseReason) Broken). WasServiced (is_some settings.clients.gate) settings stream
+    (served_view (state g.S.Store) g.R.Recorder.found g.R.Recorder.failed) r
     (known c.next_ready.new.self) (known went.new.network) out.result went.result.0 between behind)
     c.in_default-next.is
-    (subst (λ (b : Bool). WasServiced (is_some settings.clients.gate) (settings_by g.A.ServedFile.whole b c.args.server_settings) stream (served_view (state g.S.Store) g.R.Recorder.found g.R.Recorder.failed) went.result.1
+    (subst (λ (b : Bool). WasServiced (is_some settings.clients.gate) (settings_by g.A.ServedFile.whole b c.args.server_settings) stream
+    (served_view (state g.S.Store) g.R.Recorder.found g.R.Recorder.failed) went.result.1
     (known c.next_ready.new.self) (known went.new.network) out.result went.result.0 between behind) c.loop.invariant.records_same went.ensures.went) in
     let broken : Result (Unit {0}) Broken = Err c.in_default-next.field-0 in
     unfailed_then broken (known c.args.network.now) (known c.next_ready.new.self) (known went.new.network)
@@ -173,7 +185,8 @@ returns-in_default-clause-goes_on g c =
     let stream = stream_of g.D.Stream.Stream.held g.D.Stream.Stream.taken g.D.Stream.Stream.failed in
     let known = g.D.Network.known in
     let between = served_office c.loop.office (memory_entry c.loop.kept) in
-    serves_then settings stream (served_view (state g.S.Store) g.R.Recorder.found g.R.Recorder.failed) (known c.args.network.now) (known c.loop.network) (known c.next_ready.new.self) c.args.table.now c.loop.table c.loop.table
+    serves_then settings stream (served_view (state g.S.Store) g.R.Recorder.found g.R.Recorder.failed) (known c.args.network.now) (known c.loop.network)
+    (known c.next_ready.new.self) c.args.table.now c.loop.table c.loop.table
     (served_office c.args.office.now (memory_entry c.args.kept.now)) between between
     c.loop.invariant.goes_on
     (serves_still settings stream (served_view (state g.S.Store) g.R.Recorder.found g.R.Recorder.failed) (known c.loop.network) (known c.next_ready.new.self) c.loop.table between
