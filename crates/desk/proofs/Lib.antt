@@ -13,6 +13,7 @@ pub mod StageLemmas
 pub mod KeptLemmas
 mod RecordedLemmas
 pub mod OpenLemmas
+pub mod RecordedEnds
 pub mod SealLemmas
 pub mod ScriptLemmas
 pub mod ScriptEnds

@@ -42,7 +42,7 @@ fn stage_of<S: Alter, R: Recorder>(
     recorder: &mut R,
 ) -> (LineOutcome, bool)
     ensures told { WhenOpenAt (state S.Store) office.old office.new (λ s. (answered : ℕ)
-        × IsStageBy (R.records recorder.old) (state S.Store office.old.held) office.new.closed (state S.Store office.new.held) is_first s request.now (page_of result.0) answered result.1
+        × IsStageBy (R.failed recorder.new) (state S.Store office.old.held) office.new.closed (state S.Store office.new.held) is_first s request.now (page_of result.0) answered result.1
         × (R.failed recorder.old ≡ false → IsRecorded s (request.now ∷ []) answered (R.found recorder.old) (R.found recorder.new) (R.failed recorder.new))) }
     ensures same { R.records recorder.new ≡ R.records recorder.old }
     ensures keeps_connection { KeepsConnection (state S.Store office.old.held) (state S.Store office.new.held) }
@@ -89,7 +89,7 @@ pub(crate) fn count_stages<S: Alter, R: Recorder, O: Sink, E: Sink>(
     ensures counted { let outputs = outputs_of O.taken O.failed E.taken E.failed in Tells (outputs out.old err.old) (outputs out.new err.new) result
         (λ cut page. WhenOpenAt (state S.Store) office.old office.new (λ s. (keep : Bool) (ward : ℕ) (id : Text) → map sent_as requests.now ≡ advances ward id most_advances
         → ComesToRecorded cut page (λ own answered. R.failed recorder.old ≡ false → IsRecorded s own answered (R.found recorder.old) (R.found recorder.new) (R.failed recorder.new))
-        (IsCountedBy (R.records recorder.old) (state S.Store office.old.held) office.new.closed (state S.Store office.new.held) keep line s ward id))) }
+        (IsCountedBy (R.failed recorder.new) (state S.Store office.old.held) office.new.closed (state S.Store office.new.held) keep line s ward id))) }
     ensures same { R.records recorder.new ≡ R.records recorder.old }
     ensures keeps_connection { KeepsConnection (state S.Store office.old.held) (state S.Store office.new.held) }
     ensures clean { HasCleanDisk (state S.Store office.new.held) → HasCleanDisk (state S.Store office.old.held) }

@@ -67,7 +67,7 @@ fn run<S: Alter, F: Folder, R: Recorder, O: Sink, E: Sink>(
     ensures ran { let outputs = outputs_of O.taken O.failed E.taken E.failed in Tells (outputs out.old err.old) (outputs out.new err.new) result
         (λ cut page. WhenOpenAt (state S.Store) office.old office.new (λ s. ComesToRecorded cut page
         (λ own answered. R.failed recorder.old ≡ false → IsRecorded s own answered (R.found recorder.old) (R.found recorder.new) (R.failed recorder.new))
-        (λ course. IsPlayedBy (R.records recorder.old) (state S.Store office.old.held) office.new.closed (state S.Store office.new.held) keep_going (F.held folder.now) s (record { line = line; errand = errand.now } ∷ []) course))) }
+        (λ course. IsPlayedBy (R.failed recorder.new) (state S.Store office.old.held) office.new.closed (state S.Store office.new.held) keep_going (F.held folder.now) s (record { line = line; errand = errand.now } ∷ []) course))) }
     ensures same { R.records recorder.new ≡ R.records recorder.old }
     ensures keeps_connection { KeepsConnection (state S.Store office.old.held) (state S.Store office.new.held) }
     ensures clean { HasCleanDisk (state S.Store office.new.held) → HasCleanDisk (state S.Store office.old.held) }
@@ -128,7 +128,7 @@ fn run_steps<S: Alter, F: Folder, R: Recorder, O: Sink, E: Sink>(
     ensures sent { let outputs = outputs_of O.taken O.failed E.taken E.failed in Tells (outputs out.old err.old) (outputs out.new err.new) result
         (λ cut page. WhenOpenAt (state S.Store) office.old office.new (λ s. ComesToRecorded cut page
         (λ own answered. R.failed recorder.old ≡ false → IsRecorded s own answered (R.found recorder.old) (R.found recorder.new) (R.failed recorder.new))
-        (λ course. IsPlayedBy (R.records recorder.old) (state S.Store office.old.held) office.new.closed (state S.Store office.new.held) keep_going (F.held folder.now) s turns.now course))) }
+        (λ course. IsPlayedBy (R.failed recorder.new) (state S.Store office.old.held) office.new.closed (state S.Store office.new.held) keep_going (F.held folder.now) s turns.now course))) }
     ensures same { R.records recorder.new ≡ R.records recorder.old }
     ensures keeps_connection { KeepsConnection (state S.Store office.old.held) (state S.Store office.new.held) }
     ensures clean { HasCleanDisk (state S.Store office.new.held) → HasCleanDisk (state S.Store office.old.held) }
@@ -170,7 +170,7 @@ fn run_part<S: Alter, F: Folder, R: Recorder, O: Sink, E: Sink>(
     ensures sent { let outputs = outputs_of O.taken O.failed E.taken E.failed in Tells (outputs out.old err.old) (outputs out.new err.new) result
         (λ cut page. WhenOpenAt (state S.Store) office.old office.new (λ s. ComesToRecorded cut page
         (λ own answered. R.failed recorder.old ≡ false → IsRecorded s own answered (R.found recorder.old) (R.found recorder.new) (R.failed recorder.new))
-        (λ course. IsBegunBy (R.records recorder.old) (state S.Store office.old.held) office.new.closed (state S.Store office.new.held) true keep_going (F.held folder.now) s turns.now course))) }
+        (λ course. IsBegunBy (R.failed recorder.new) (state S.Store office.old.held) office.new.closed (state S.Store office.new.held) true keep_going (F.held folder.now) s turns.now course))) }
     ensures same { R.records recorder.new ≡ R.records recorder.old }
     ensures keeps_connection { KeepsConnection (state S.Store office.old.held) (state S.Store office.new.held) }
     ensures clean { HasCleanDisk (state S.Store office.new.held) → HasCleanDisk (state S.Store office.old.held) }
@@ -199,7 +199,7 @@ fn begin_steps<S: Alter, F: Folder, R: Recorder, O: Sink, E: Sink>(
     ensures sent { let outputs = outputs_of O.taken O.failed E.taken E.failed in Tells (outputs out.old err.old) (outputs out.new err.new) result
         (λ cut page. WhenOpenAt (state S.Store) office.old office.new (λ s. ComesToRecorded cut page
         (λ own answered. R.failed recorder.old ≡ false → IsRecorded s own answered (R.found recorder.old) (R.found recorder.new) (R.failed recorder.new))
-        (λ course. IsBegunBy (R.records recorder.old) (state S.Store office.old.held) office.new.closed (state S.Store office.new.held) left_out keep_going (F.held folder.now) s turns.now course))) }
+        (λ course. IsBegunBy (R.failed recorder.new) (state S.Store office.old.held) office.new.closed (state S.Store office.new.held) left_out keep_going (F.held folder.now) s turns.now course))) }
     ensures same { R.records recorder.new ≡ R.records recorder.old }
     ensures keeps_connection { KeepsConnection (state S.Store office.old.held) (state S.Store office.new.held) }
     ensures clean { HasCleanDisk (state S.Store office.new.held) → HasCleanDisk (state S.Store office.old.held) }
@@ -229,7 +229,7 @@ fn run_script<S: Alter, F: Folder, R: Recorder, O: Sink, E: Sink>(
     ensures sent { let outputs = outputs_of O.taken O.failed E.taken E.failed in Tells (outputs out.old err.old) (outputs out.new err.new) result
         (λ cut page. WhenOpenAt (state S.Store) office.old office.new (λ s. ComesToRecorded cut page
         (λ own answered. R.failed recorder.old ≡ false → IsRecorded s own answered (R.found recorder.old) (R.found recorder.new) (R.failed recorder.new))
-        (λ course. IsReplayOfBy (R.records recorder.old) left_out keep_going (F.held folder.now) s (map typed_line_entry lines.now) course (state S.Store office.old.held) office.new.closed (state S.Store office.new.held)))) }
+        (λ course. IsReplayOfBy (R.failed recorder.new) left_out keep_going (F.held folder.now) s (map typed_line_entry lines.now) course (state S.Store office.old.held) office.new.closed (state S.Store office.new.held)))) }
     ensures same { R.records recorder.new ≡ R.records recorder.old }
     ensures keeps_connection { KeepsConnection (state S.Store office.old.held) (state S.Store office.new.held) }
     ensures clean { HasCleanDisk (state S.Store office.new.held) → HasCleanDisk (state S.Store office.old.held) }
@@ -323,7 +323,7 @@ fn replay<S: Alter, F: Folder, R: Recorder, O: Sink, E: Sink>(
     ensures ran { let outputs = outputs_of O.taken O.failed E.taken E.failed in Tells (outputs out.old err.old) (outputs out.new err.new) result
         (λ cut page. WhenOpenAt (state S.Store) office.old office.new (λ s. ComesToRecorded cut page
         (λ own answered. R.failed recorder.old ≡ false → IsRecorded s own answered (R.found recorder.old) (R.found recorder.new) (R.failed recorder.new))
-        (λ course. IsDoneBy (R.records recorder.old) (state S.Store office.old.held) office.new.closed (state S.Store office.new.held) (F.held folder.now) s (Job.Replay asked.entry) course))) }
+        (λ course. IsDoneBy (R.failed recorder.new) (state S.Store office.old.held) office.new.closed (state S.Store office.new.held) (F.held folder.now) s (Job.Replay asked.entry) course))) }
     ensures same { R.records recorder.new ≡ R.records recorder.old }
     ensures keeps_connection { KeepsConnection (state S.Store office.old.held) (state S.Store office.new.held) }
     ensures clean { HasCleanDisk (state S.Store office.new.held) → HasCleanDisk (state S.Store office.old.held) }
@@ -371,7 +371,7 @@ pub fn follow_recorded<S: Alter, F: Folder, R: Recorder, O: Sink, E: Sink>(
     ensures did { let outputs = outputs_of O.taken O.failed E.taken E.failed in Tells (outputs out.old err.old) (outputs out.new err.new) result
         (λ cut page. WhenOpenAt (state S.Store) office.old office.new (λ s. ComesToRecorded cut page
         (λ own answered. R.failed recorder.old ≡ false → IsRecorded s own answered (R.found recorder.old) (R.found recorder.new) (R.failed recorder.new))
-        (λ course. IsDoneBy (R.records recorder.old) (state S.Store office.old.held) office.new.closed (state S.Store office.new.held) (F.held folder.now) s job.now course))) }
+        (λ course. IsDoneBy (R.failed recorder.new) (state S.Store office.old.held) office.new.closed (state S.Store office.new.held) (F.held folder.now) s job.now course))) }
     ensures same { R.records recorder.new ≡ R.records recorder.old }
     ensures keeps_connection { KeepsConnection (state S.Store office.old.held) (state S.Store office.new.held) }
     ensures clean { HasCleanDisk (state S.Store office.new.held) → HasCleanDisk (state S.Store office.old.held) }

@@ -38,6 +38,8 @@ fn in_office<S: Alter, F: Folder, R: Recorder, O: Sink, E: Sink>(
     match Office::open_from(alloc, conn) {
         Ok(mut office) => {
             let status = follow_recorded(alloc, &mut office, job, folder, recorder, out, err);
+            // called for its law: if the record failed, there is one
+            let _ = recorder.has_failed();
             (status, office.into_connection())
         }
         Err((fault, conn)) => (tell(None, &LineOutcome::Failed(fault), out, err), conn),

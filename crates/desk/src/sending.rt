@@ -61,7 +61,7 @@ fn outcome_of<S: Alter, R: Recorder>(
     recorder: &mut R,
 ) -> LineOutcome
     ensures told { WhenOpenAt (state S.Store) office.old office.new (λ s. (answered : ℕ)
-        × IsAnsweredBy (state S.Store office.old.held) office.new.closed (state S.Store office.new.held) (R.records recorder.old) page_for s request.now answered (page_of result)
+        × IsAnsweredBy (state S.Store office.old.held) office.new.closed (state S.Store office.new.held) (R.failed recorder.new) page_for s request.now answered (page_of result)
         × (R.failed recorder.old ≡ false → IsRecorded s (request.now ∷ []) answered (R.found recorder.old) (R.found recorder.new) (R.failed recorder.new))) }
     ensures same { R.records recorder.new ≡ R.records recorder.old }
     ensures keeps_connection { KeepsConnection (state S.Store office.old.held) (state S.Store office.new.held) }
@@ -100,7 +100,7 @@ pub(crate) fn send_all<S: Alter, R: Recorder, O: Sink, E: Sink>(
     ensures sent { let outputs = outputs_of O.taken O.failed E.taken E.failed in Tells (outputs out.old err.old) (outputs out.new err.new) result
         (λ cut page. WhenOpenAt (state S.Store) office.old office.new (λ s. ComesToRecorded cut page
         (λ own answered. R.failed recorder.old ≡ false → IsRecorded s own answered (R.found recorder.old) (R.found recorder.new) (R.failed recorder.new))
-        (λ course. IsSentBy (R.records recorder.old) (state S.Store office.old.held) office.new.closed (state S.Store office.new.held) keep_going line page_for
+        (λ course. IsSentBy (R.failed recorder.new) (state S.Store office.old.held) office.new.closed (state S.Store office.new.held) keep_going line page_for
         (IsOver office.new.closed (state S.Store office.new.held)) s requests.now course))) }
     ensures same { R.records recorder.new ≡ R.records recorder.old }
     ensures keeps_connection { KeepsConnection (state S.Store office.old.held) (state S.Store office.new.held) }

@@ -16,7 +16,7 @@ use Rattle.wire.specs.Told.{IsTold}
 use Rattle.wire.specs.declared.request_error.RequestError.TheVariants.{NotFound}
 use Rattle.wire.proofs.RequestLemmas.{AsksOneThing-all}
 use Rattle.wire.proofs.OutcomeLemmas.{IsOutcome-handed}
-use Rattle.server.specs.Blind.{AnswersAsSeen, AreAnsweredAlike, AreClients, AreOwn, RespondsBySeen, IsAnsweredBySeen, IsStoppedBySeen, IsUnanswered}
+use Rattle.server.specs.Blind.{AnswersAsSeen, AreAnsweredAlike, AreClients, AreOwn, RespondsBySeen, IsAnsweredBySeen, IsStoppedBySeen, IsUnacknowledgedBySeen, IsUnanswered, IsUnrecordedBySeen}
 use Rattle.server.specs.Settings.{ServerSettingsEntry}
 use Rattle.server.specs.Exchanges.{AreRefusedClosed, AsksNoOrder, EndsSo, IsClientAnsweredAt, GetsClosedResponse, Exchange}
 
@@ -133,6 +133,12 @@ module _ (settings : ServerSettingsEntry) where
     client_stop view exchange free (inl (none, it)) = it
     client_stop view exchange free (inr (next, it)) = absurd (free it.tells.entry it.tells.asks)
 
+    -- the record failed
+    client_unrecorded : (view next : OfficeState) (exchange : Exchange) → AsksNoOrder settings.clients exchange.got
+        → IsUnacknowledgedBySeen Clients state_of settings clerk view exchange next → IsUnrecordedBySeen settings clerk view exchange next
+    client_unrecorded view next exchange free (inl it) = it
+    client_unrecorded view next exchange free (inr it) = absurd (free it.tells.entry it.tells.asks)
+
     -- the clerk's own exchanges, out of all those that are answered this way
     own_seen : (view : OfficeState) (exchanges own : List Exchange) → AnswersAsSeen state_of settings clerk view exchanges → AreClients settings.clients exchanges
         → AreOwn settings.clients clerk exchanges own → AnswersOwn view own
@@ -143,10 +149,18 @@ module _ (settings : ServerSettingsEntry) where
     own_seen view (exchange ∷ exchanges) own (inl (next, turn, rest)) (client, free, clients) (inr (not, others)) =
         let it = client_turn view next exchange free (subst (λ (listener : Listener). RespondsBySeen listener state_of settings clerk view exchange next) client turn) in
         subst (λ (v : OfficeState). AnswersOwn v own) (it.other not) (own_seen next exchanges own rest clients others)
-    own_seen view (exchange ∷ exchanges) own (inr (stopped, away)) (client, free, clients) (inl (under, (later, is, others))) =
+    own_seen view (exchange ∷ exchanges) own (inr (inl (stopped, away))) (client, free, clients) (inl (under, (later, is, others))) =
         let it = client_stop view exchange free (subst (λ (listener : Listener). IsStoppedBySeen listener state_of settings clerk view exchange) client stopped) in
         subst (AnswersOwn view) (sym is) (inr (inl it))
-    own_seen view (exchange ∷ exchanges) own (inr (stopped, away)) (client, free, clients) (inr (not, others)) = away_own view exchanges own away clients others
+    own_seen view (exchange ∷ exchanges) own (inr (inl (stopped, away))) (client, free, clients) (inr (not, others)) = away_own view exchanges own away clients others
+    own_seen view (exchange ∷ exchanges) own (inr (inr (recorded, (next, unacknowledged, rest)))) (client, free, clients) (inl (under, (later, is, others))) =
+        let it = client_unrecorded view next exchange free
+        (subst (λ (listener : Listener). IsUnacknowledgedBySeen listener state_of settings clerk view exchange next) client unacknowledged) in
+        subst (AnswersOwn view) (sym is) (inr (inr (inl (inl (inr (inr (it.told, recorded)))))))
+    own_seen view (exchange ∷ exchanges) own (inr (inr (recorded, (next, unacknowledged, rest)))) (client, free, clients) (inr (not, others)) =
+        let it = client_unrecorded view next exchange free
+        (subst (λ (listener : Listener). IsUnacknowledgedBySeen listener state_of settings clerk view exchange next) client unacknowledged) in
+        subst (λ (v : OfficeState). AnswersOwn v own) (it.other not) (own_seen next exchanges own rest clients others)
 
     -- ---- two services
 

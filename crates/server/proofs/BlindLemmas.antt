@@ -1,5 +1,5 @@
 -- What a clerk sees determines what the clerk is sent.
-use Rattle.std.proofs.Common.{◌≡◌, ◌∙◌, ◌∷◌, ◌++◌, ◌==◌, ◌&&◌, Bool, Err, List, [], Ok, Some, None, Option, ap, cond, false, inl, inr, refl, string_bytes, subst, sym, true, ℕ}
+use Rattle.std.proofs.Common.{◌≡◌, ◌∙◌, ◌⊎◌, ◌∷◌, ◌++◌, ◌==◌, ◌&&◌, Bool, Err, List, [], Ok, Some, None, Option, ap, cond, false, inl, inr, refl, string_bytes, subst, sym, true, ℕ}
 use Rattle.std.proofs.lemmas.Bool.{both_ways, eq-eqb, eqb-true}
 use Rattle.std.specs.Str.{bytes_eq}
 use Rattle.sqlite.specs.Held.{Held}
@@ -33,9 +33,10 @@ use Rattle.wire.specs.declared.serving.Served.{Served}
 use Rattle.wire.specs.declared.target.Resource.{Resource}
 use Rattle.wire.specs.declared.target.Resource.TheVariants.{Candidates, Declaration, Keyed, Office, Sheet, Work}
 use Rattle.wire.proofs.RequestLemmas.{AsksOneThing-all}
-use Rattle.server.specs.Blind.{AnswersAsSeen, RespondsBySeen, IsAnsweredBySeen, IsStoppedBySeen, IsUnder}
+use Rattle.server.specs.Blind.{AnswersAsSeen, RespondsBySeen, IsAnsweredBySeen, IsStoppedBySeen, IsUnacknowledgedBySeen, IsUnder, IsUnrecordedBySeen}
 use Rattle.server.specs.Settings.{ServerSettingsEntry}
-use Rattle.server.specs.Exchanges.{AnswersInTurn, AsksNoOrder, IsAnsweredAt, IsClientAnsweredAt, IsStoppedAt, Exchange}
+use Rattle.server.specs.Exchanges.{AnswersInTurn, AsksNoOrder, IsAfterLast, IsAnsweredAt, IsClientAnsweredAt, IsKeyingUnacknowledged, IsStoppedAt, IsUnacknowledgedAt, IsUnrecordedResponse, Exchange}
+use Rattle.server.proofs.ConsoleLemmas.{asks_no_order}
 
 -- ---- requests under a clerk's number
 
@@ -269,6 +270,56 @@ module _ (itself : SeenIsAlike) (alike : AlikeOfficesAnswerAlike) (seen : SeenIs
         inr (seen_by clerk (after s answered), record { s = s; seen = refl; sent = answered; last = last; tells = it; made = refl })
     stop_seen Orders s exchange answered last it = (seen_by clerk (after s answered), record { s = s; seen = refl; sent = answered; last = last; tells = it; made = refl })
 
+    -- ---- the record failed
+
+    -- a keying wasn't acknowledged, but it was accepted
+    keyed_unseen : (s : OfficeState) (exchange : Exchange) (next : OfficeState) (n batch : ℕ) (entry : KeyingEntry) (request : Request) → IsState s
+        → Asks settings.clients exchange.got (keying n batch entry) → IsHandedOn n batch entry request → IsUnrecordedResponse exchange → next ≡ after s (request ∷ [])
+        → IsUnrecordedBySeen settings clerk (seen_by clerk s) exchange (seen_by clerk next)
+    keyed_unseen s exchange next n batch entry request state asks handed told is = go (n == clerk) refl
+      where
+        go : (b : Bool) → (n == clerk) ≡ b → IsUnrecordedBySeen settings clerk (seen_by clerk s) exchange (seen_by clerk next)
+        go true same =
+            let its : request.actor ≡ clerk = handed.actor ∙ eqb-true n clerk same in
+            record {
+              no_order = asks_no_order settings.clients exchange.got (keying n batch entry) asks refl;
+              told = told;
+              own = inr (request, its, ap (seen_by clerk) is ∙ own_seen s request state its);
+              other = λ not. absurd (not (record { asked = keying n batch entry; asks = asks; its = ap Some (eqb-true n clerk same) }));
+            }
+        go false other =
+            let apart : (request.actor == clerk) ≡ false = ap (λ (m : ℕ). m == clerk) handed.actor ∙ other in
+            let stays = ap (seen_by clerk) is ∙ other_seen s request handed.handed state handed.command apart in
+            record { no_order = asks_no_order settings.clients exchange.got (keying n batch entry) asks refl; told = told; own = inl stays; other = λ not. stays }
+
+    client_unseen : (s : OfficeState) (exchange : Exchange) (answered last : List Request) (next : OfficeState) → IsState s → IsKeyingUnacknowledged settings exchange answered last
+        → IsAfterLast s answered last next → IsUnrecordedBySeen settings clerk (seen_by clerk s) exchange (seen_by clerk next)
+    client_unseen s exchange answered last next state it (inl is) =
+        let stays = ap (seen_by clerk) (is ∙ ap (after s) it.none) in
+        record { no_order = asks_no_order settings.clients exchange.got (keying it.clerk it.batch it.entry) it.asks refl; told = it.told; own = inl stays; other = λ not. stays }
+    client_unseen s exchange answered last next state it (inr is) =
+        keyed_unseen s exchange next it.clerk it.batch it.entry it.request state it.asks it.handed it.told
+        (is ∙ ap (after s) (ap (λ (rs : List Request). rs ++ last) it.none ∙ it.is_last))
+
+    made_seen : (s : OfficeState) (answered last : List Request) (next : OfficeState) → IsAfterLast s answered last next
+        → (seen_by clerk next ≡ seen_by clerk (after s answered)) ⊎ (seen_by clerk next ≡ seen_by clerk (after s (answered ++ last)))
+    made_seen s answered last next (inl is) = inl (ap (seen_by clerk) is)
+    made_seen s answered last next (inr is) = inr (ap (seen_by clerk) is)
+
+    unacknowledged_seen : (listener : Listener) (s : OfficeState) (exchange : Exchange) (answered last : List Request) (next : OfficeState) → IsState s
+        → IsUnacknowledgedAt listener state_of settings s exchange answered last → IsAfterLast s answered last next
+        → IsUnacknowledgedBySeen listener state_of settings clerk (seen_by clerk s) exchange (seen_by clerk next)
+    unacknowledged_seen Clients s exchange answered last next state (inl it) is_next = inl (client_unseen s exchange answered last next state it is_next)
+    unacknowledged_seen Clients s exchange answered last next state (inr it) is_next =
+        inr (record { s = s; seen = refl; sent = answered; last = last; tells = it; made = made_seen s answered last next is_next })
+    unacknowledged_seen Orders s exchange answered last next state it is_next =
+        record { s = s; seen = refl; sent = answered; last = last; tells = it; made = made_seen s answered last next is_next }
+
+    next_state : (states : (s : OfficeState) (rs : List Request) → IsState s → IsState (after s rs)) (s : OfficeState) (answered last : List Request) (next : OfficeState) → IsState s
+        → IsAfterLast s answered last next → IsState next
+    next_state states s answered last next state (inl is) = subst IsState (sym is) (states s answered state)
+    next_state states s answered last next state (inr is) = subst IsState (sym is) (states s (answered ++ last) state)
+
     -- ---- one exchange after another
 
     pub all_seen : (states : (s : OfficeState) (rs : List Request) → IsState s → IsState (after s rs)) (s : OfficeState) (exchanges : List Exchange) (answered last : List Request) → IsState s
@@ -276,4 +327,12 @@ module _ (itself : SeenIsAlike) (alike : AlikeOfficesAnswerAlike) (seen : SeenIs
     all_seen states s [] answered last state it = tt
     all_seen states s (exchange ∷ exchanges) answered last state (inl (sent, others, told, is, rest)) =
         inl (seen_by clerk (after s sent), turn_seen exchange.listener s exchange sent state told, all_seen states (after s sent) exchanges others last (states s sent state) rest)
-    all_seen states s (exchange ∷ exchanges) answered last state (inr (stopped, away)) = inr (stop_seen exchange.listener s exchange answered last stopped, away)
+    all_seen states s (exchange ∷ exchanges) answered last state (inr (inl (stopped, away))) = inr (inl (stop_seen exchange.listener s exchange answered last stopped, away))
+    all_seen states s (exchange ∷ exchanges) answered last state (inr (inr (is, unacknowledged, (next, is_next, rest)))) = inr (inr (
+      is,
+      (
+        seen_by clerk next,
+        unacknowledged_seen exchange.listener s exchange answered last next state unacknowledged is_next,
+        all_seen states next exchanges [] [] (next_state states s answered last next state is_next) rest,
+      ),
+    ))

@@ -25,7 +25,9 @@ use Rattle.wire.proofs.RequestLemmas.{AsksOneThing-all}
 use Rattle.server.specs.ConsoleOrders.{FollowsConsole, FollowsEntry, HasPrinted, IsInResponse, printed_response}
 use Rattle.server.specs.Endings.{EndsIn}
 use Rattle.server.specs.Exchanges.{AsksNoOrder, ServesAsked, Exchange}
-use Rattle.server.specs.Reads.{MemoryEntry, ServedOffice, served_office}
+use Rattle.codes.specs.RateLimits.{LimitEntry}
+use Rattle.server.specs.Reads.{MemoryEntry, ReadEntry, ServedOffice, served_office}
+use Rattle.server.specs.RecordChanges.{RecordChange, ServedView, change_in}
 use Rattle.server.specs.Settings.{ServerSettingsEntry}
 use Rattle.server.specs.declared.served_order.ServedOrder.TheVariants as asked
 use Rattle.server.proofs.AnswerLemmas.{noted_still, served_none}
@@ -87,11 +89,11 @@ told_failed status out err response other told = by (is_utf8 out) (is_utf8 err) 
 
 -- ---- the order is carried out
 
-module _ {S : Type 0} (settings : ServerSettingsEntry) (state_of : Held S → State) where
+module _ {S : Type 0} (settings : ServerSettingsEntry) (state_of : Held S → State) (change : RecordChange) where
   -- the order was carried out, and the response was written
   pub console_followed : (old new : OfficeValue S) (got answer : List ℕ) (entry : ConsoleOrderEntry) (response : Response) → Asks settings.clients got (order entry)
-      → FollowsEntry settings state_of old entry (λ cut page. HasPrinted cut page response) new → EndsIn answer (λ before after ending. IsPut before after response ending)
-      → FollowsConsole settings state_of old got answer new
+      → FollowsEntry settings state_of change old entry (λ cut page. HasPrinted cut page response) new → EndsIn answer (λ before after ending. IsPut before after response ending)
+      → FollowsConsole settings state_of change old got answer new
   console_followed old new got answer entry response asks it (served, put) = record {
     entry = entry;
     asks = asks;
@@ -99,15 +101,18 @@ module _ {S : Type 0} (settings : ServerSettingsEntry) (state_of : Held S → St
       files = it.files;
       asked = it.asked;
       is = it.is;
-      tells = follows_sent state_of old new it.files it.asked (λ cut page. HasPrinted cut page response) (λ cut page. IsInResponse cut page answer)
+      begins = it.begins;
+      fails = it.fails;
+      tells = follows_sent state_of change old new it.files it.asked (λ cut page. HasPrinted cut page response) (λ cut page. IsInResponse cut page answer)
           (λ cut page has. (served, record { response = response; ready = has; put = put })) it.tells;
     };
   }
 
   -- an allocation failed while the order was read
-  console_unread : (office : OfficeValue S) (got answer : List ℕ) (entry : ConsoleOrderEntry) → Asks settings.clients got (order entry) → EndsIn answer (IsServed (IsWritten (fault_response 101)))
-      → FollowsConsole settings state_of office got answer office
-  console_unread office got answer entry asks (served, it) =
+  pub console_unread : (office : OfficeValue S) (got answer : List ℕ) (entry : ConsoleOrderEntry) → change.same → change.has_failed ≡ change.had_failed → Asks settings.clients got (order entry)
+      → EndsIn answer (IsServed (IsWritten (fault_response 101)))
+      → FollowsConsole settings state_of change office got answer office
+  console_unread office got answer entry same still asks (served, it) =
       let page : Page = failed (Office Memory) in
       let has : HasPrinted uncut page it.response = record {
         told = record { out = Some []; out_failed = 0; err = Some page.err; err_failed = 0 };
@@ -125,30 +130,66 @@ module _ {S : Type 0} (settings : ServerSettingsEntry) (state_of : Held S → St
           files = [];
           asked = asked.Refused (Office Memory);
           is = inr (refl, refl);
+          begins = tt;
+          fails = λ had has. absurd (true≢false (sym has ∙ still ∙ had));
           tells = record {
             cut = uncut;
             page = page;
             told = (served, record { response = it.response; ready = has; put = it.put });
-            does = λ clean is_open s at. (refl, record { is_open = is_open; at = at });
-            turned_away = λ closed. (refl, refl);
+            does = λ clean is_open s at. (refl, record { is_open = is_open; at = at }, same);
+            turned_away = λ closed. (refl, refl, same);
             clean = λ clean. clean;
           };
         };
       }
 
+module _ {S R : Type 0} (settings : ServerSettingsEntry) (view : ServedView S R) where
   -- an allocation failed while a request was read; the cache is empty afterwards
-  pub unread_served : (office : OfficeValue S) (kept later : MemoryEntry) (number moment : ℕ) (got answer : List ℕ) (head : Parsed) → IsParsed settings.clients got head → later.reads ≡ []
-      → EndsIn answer (IsServed (IsWritten (fault_response 101)))
-      → ServesAsked settings state_of (served_office office kept) (record { listener = Clients; number = number; moment = moment; got = got; answer = answer }) (served_office office later)
-  unread_served office kept later number moment got answer head is none told =
+  pub unread_served : (office : OfficeValue S) (kept later : MemoryEntry R) (number moment : ℕ) (got answer : List ℕ) (head : Parsed) → IsParsed settings.clients got head → later.reads ≡ []
+      → later.recorder ≡ kept.recorder → EndsIn answer (IsServed (IsWritten (fault_response 101)))
+      → ServesAsked settings view (served_office office kept) (record { listener = Clients; number = number; moment = moment; got = got; answer = answer }) (served_office office later)
+  unread_served office kept later number moment got answer head is none same told =
       let it = asks_something settings.clients got head is in
       elim (asks_order_or_not settings.clients got it.0 it.1) [
-        | inl free ↦ inl (free, served_none settings.clients state_of office kept later number moment got answer none told)
-        | inr (entry, asks) ↦ inr (console_unread office got answer entry asks told, none)
+        | inl free ↦ inl (inl (free, served_none settings.clients view office kept later number moment got answer none same told))
+        | inr (entry, asks) ↦ inl (inr (
+          console_unread settings view.state_of (change_in view kept.recorder later.recorder) office got answer entry same (ap view.failed same) asks told,
+          none,
+        ))
       ]
 
+  -- the cache and the recorder are the same, and another wrong code may have been counted
+  noted_so : (old : ServedOffice S R) (exchange : Exchange) (new : OfficeValue S) (kept : MemoryEntry R) (limit : LimitEntry)
+      → ServesAsked settings view old exchange (served_office new kept)
+      → ServesAsked settings view old exchange (served_office new (record { reads = kept.reads; limit = limit; recorder = kept.recorder }))
+  noted_so old exchange new kept limit (inl (inl (free, it))) = inl (inl (free, noted_still settings.clients view old exchange new kept limit it))
+  noted_so old exchange new kept limit (inl (inr (it, emptied))) = inl (inr (it, emptied))
+  noted_so old exchange new kept limit (inr (inl it, emptied)) =
+      inr (inl (record { told = it.told; recorded = it.recorded; failed = it.failed; stays = it.stays; same = it.same }), emptied)
+  noted_so old exchange new kept limit (inr (inr it, emptied)) = inr (
+    inr (record {
+      clerk = it.clerk;
+      batch = it.batch;
+      entry = it.entry;
+      request = it.request;
+      asks = it.asks;
+      handed = it.handed;
+      was_open = it.was_open;
+      accepted = it.accepted;
+      had_not_failed = it.had_not_failed;
+      failed = it.failed;
+      recorded = it.recorded;
+      leaves = it.leaves;
+      told = it.told;
+      clean = it.clean;
+    }),
+    emptied,
+  )
+
   -- then a wrong code is counted
-  pub noted_asked : (old : ServedOffice S) (exchange : Exchange) (new : OfficeValue S) (kept later : MemoryEntry) → later.reads ≡ kept.reads
-      → ServesAsked settings state_of old exchange (served_office new kept) → ServesAsked settings state_of old exchange (served_office new later)
-  noted_asked old exchange new kept later same (inl (free, it)) = inl (free, noted_still settings.clients state_of old exchange new kept later same it)
-  noted_asked old exchange new kept later same (inr (it, emptied)) = inr (it, same ∙ emptied)
+  pub noted_asked : (old : ServedOffice S R) (exchange : Exchange) (new : OfficeValue S) (kept later : MemoryEntry R) → later.reads ≡ kept.reads → later.recorder ≡ kept.recorder
+      → ServesAsked settings view old exchange (served_office new kept) → ServesAsked settings view old exchange (served_office new later)
+  noted_asked old exchange new kept later same same_recorder it =
+      subst (λ (r : R). ServesAsked settings view old exchange (served_office new (record { reads = later.reads; limit = later.limit; recorder = r }))) (sym same_recorder)
+      (subst (λ (rs : List ReadEntry). ServesAsked settings view old exchange (served_office new (record { reads = rs; limit = later.limit; recorder = kept.recorder }))) (sym same)
+      (noted_so old exchange new kept later.limit it))

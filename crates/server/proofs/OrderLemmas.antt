@@ -19,7 +19,8 @@ use Rattle.order_protocol.specs.declared.order_message.MessagePart.{MessagePart}
 use Rattle.order_protocol.proofs.MessageParts.{handed_again}
 use Rattle.desk.specs.Pages.{Cut, IsShown, Outputs, Page, Shows, Tells, cut_behind, cut_error, uncut}
 use Rattle.desk.specs.declared.lines.Failure.TheVariants.{Office}
-use Rattle.server.specs.ServedOrders.{AsksSo, Follows, IsOrderOutcome, FollowsOrder, IsForFile, IsMessage, IsUnread, IsResponseToOrder, folder_of, closed_office_page, untold, words_in}
+use Rattle.server.specs.RecordChanges.{RecordChange}
+use Rattle.server.specs.ServedOrders.{AsksSo, BeginsUnfailed, Follows, IsOrderOutcome, FollowsOrder, IsForFile, IsMessage, IsUnread, IsResponseToOrder, folder_of, closed_office_page, untold, words_in}
 use Rattle.server.specs.FrameSinks.{IsEnded}
 use Rattle.server.specs.Settings.{ServerSettingsEntry}
 use Rattle.server.specs.declared.served_order.ServedOrder.{ServedOrder}
@@ -47,24 +48,24 @@ shown_said (cut_behind took) told page status it = taken_known told.out took it.
 shown_said cut_error told page status it = taken_known told.out page.out it.out
 
 -- the request was carried out, and this part of its page was sent this way
-pub follows_asked : {S : Type 0} (state_of : Held S → State) (old new : OfficeValue S) (files : List MessagePartEntry) (what : ServedOrder) (before after : Outputs) (status : ℕ)
+pub follows_asked : {S : Type 0} (state_of : Held S → State) (change : RecordChange) (old new : OfficeValue S) (files : List MessagePartEntry) (what : ServedOrder) (before after : Outputs) (status : ℕ)
     (IsSent : Cut → Page → Type 0) → before ≡ untold → ((cut : Cut) (page : Page) → IsShown cut untold after page status → IsSent cut page)
-    → Tells before after status (λ cut page. WhenOpenAt state_of old new (λ s. IsOrderOutcome (state_of old.held) new.closed (state_of new.held) (folder_of files) s what cut page)
-    × (old.closed ≡ true → page ≡ closed_office_page what)) → (old.closed ≡ true → new ≡ old) → (HasCleanDisk (state_of new.held) → HasCleanDisk (state_of old.held))
-    → Follows state_of old files what IsSent new
-follows_asked {S} state_of old new files what before after status IsSent start sends it stays clean = record {
+    → Tells before after status (λ cut page. WhenOpenAt state_of old new (λ s. IsOrderOutcome change (state_of old.held) new.closed (state_of new.held) (folder_of files) s what cut page)
+    × (old.closed ≡ true → page ≡ closed_office_page what)) → (old.closed ≡ true → new ≡ old) → (old.closed ≡ true → change.same) → (HasCleanDisk (state_of new.held) → HasCleanDisk (state_of old.held))
+    → Follows state_of change old files what IsSent new
+follows_asked {S} state_of change old new files what before after status IsSent start sends it stays same clean = record {
   cut = it.cut;
   page = it.page;
   told = sends it.cut it.page (subst (λ (o : Outputs). IsShown it.cut o after it.page status) start it.shown);
   does = it.is.0;
-  turned_away = λ closed. (it.is.1 closed, stays closed);
+  turned_away = λ closed. (it.is.1 closed, stays closed, same closed);
   clean = clean;
 }
 
 -- the request was carried out, and its page was sent another way
-pub follows_sent : {S : Type 0} (state_of : Held S → State) (old new : OfficeValue S) (files : List MessagePartEntry) (what : ServedOrder) (IsSent IsSentToo : Cut → Page → Type 0)
-    → ((cut : Cut) (page : Page) → IsSent cut page → IsSentToo cut page) → Follows state_of old files what IsSent new → Follows state_of old files what IsSentToo new
-follows_sent {S} state_of old new files what IsSent IsSentToo turns it = record {
+pub follows_sent : {S : Type 0} (state_of : Held S → State) (change : RecordChange) (old new : OfficeValue S) (files : List MessagePartEntry) (what : ServedOrder) (IsSent IsSentToo : Cut → Page → Type 0)
+    → ((cut : Cut) (page : Page) → IsSent cut page → IsSentToo cut page) → Follows state_of change old files what IsSent new → Follows state_of change old files what IsSentToo new
+follows_sent {S} state_of change old new files what IsSent IsSentToo turns it = record {
   cut = it.cut;
   page = it.page;
   told = turns it.cut it.page it.told;
@@ -74,13 +75,13 @@ follows_sent {S} state_of old new files what IsSent IsSentToo turns it = record 
 }
 
 -- the request was processed, and its page was sent in frames
-pub tells_asked : {L S : Type 0} (stream : Stream L) (state_of : Held S → State) (old new : OfficeValue S) (files : List MessagePartEntry) (what : ServedOrder)
+pub tells_asked : {L S : Type 0} (stream : Stream L) (state_of : Held S → State) (change : RecordChange) (old new : OfficeValue S) (files : List MessagePartEntry) (what : ServedOrder)
     (before after : Outputs) (status : ℕ) (err : List ℕ)
     (now : L) (answer : PendingResponse) → before ≡ untold → after.err ≡ Some err → ((said : List ℕ) → after.out ≡ Some said → IsEnded stream said status err now answer)
-    → Tells before after status (λ cut page. WhenOpenAt state_of old new (λ s. IsOrderOutcome (state_of old.held) new.closed (state_of new.held) (folder_of files) s what cut page)
-    × (old.closed ≡ true → page ≡ closed_office_page what)) → (old.closed ≡ true → new ≡ old) → (HasCleanDisk (state_of new.held) → HasCleanDisk (state_of old.held))
-    → IsResponseToOrder state_of old files what answer.bytes.items new × IsSent stream now answer.bytes.items answer.sent
-tells_asked {L} {S} stream state_of old new files what before after status err now answer start is_err ends it stays clean =
+    → Tells before after status (λ cut page. WhenOpenAt state_of old new (λ s. IsOrderOutcome change (state_of old.held) new.closed (state_of new.held) (folder_of files) s what cut page)
+    × (old.closed ≡ true → page ≡ closed_office_page what)) → (old.closed ≡ true → new ≡ old) → (old.closed ≡ true → change.same) → (HasCleanDisk (state_of new.held) → HasCleanDisk (state_of old.held))
+    → IsResponseToOrder state_of change old files what answer.bytes.items new × IsSent stream now answer.bytes.items answer.sent
+tells_asked {L} {S} stream state_of change old new files what before after status err now answer start is_err ends it stays same clean =
     let shown : IsShown it.cut untold after it.page status = subst (λ (o : Outputs). IsShown it.cut o after it.page status) start it.shown in
     let (said, took) = shown_said it.cut after it.page status shown in
     let end = ends said took in (
@@ -89,18 +90,18 @@ tells_asked {L} {S} stream state_of old new files what before after status err n
         page = it.page;
         told = record { told = after; status = status; shown = shown; framed = record { err = err; is_err = is_err; out = took ∙ ap Some end.is; end = end.end } };
         does = it.is.0;
-        turned_away = λ closed. (it.is.1 closed, stays closed);
+        turned_away = λ closed. (it.is.1 closed, stays closed, same closed);
         clean = clean;
       },
       end.told,
     )
 
 -- the page of a closed office
-pub tells_shut : {S : Type 0} (state_of : Held S → State) (office : OfficeValue S) (files : List MessagePartEntry) (what : ServedOrder) (before after : Outputs) (status : ℕ) → office.closed ≡ true
+pub tells_shut : {S : Type 0} (state_of : Held S → State) (change : RecordChange) (office : OfficeValue S) (files : List MessagePartEntry) (what : ServedOrder) (before after : Outputs) (status : ℕ) → office.closed ≡ true
     → Shows before after (closed_office_page what) status
-    → Tells before after status (λ cut page. WhenOpenAt state_of office office (λ s. IsOrderOutcome (state_of office.held) office.closed (state_of office.held) (folder_of files) s what cut page)
+    → Tells before after status (λ cut page. WhenOpenAt state_of office office (λ s. IsOrderOutcome change (state_of office.held) office.closed (state_of office.held) (folder_of files) s what cut page)
     × (office.closed ≡ true → page ≡ closed_office_page what))
-tells_shut {S} state_of office files what before after status closed shows = record {
+tells_shut {S} state_of change office files what before after status closed shows = record {
   page = closed_office_page what;
   cut = shows.0;
   shown = shows.1;
@@ -108,11 +109,11 @@ tells_shut {S} state_of office files what before after status closed shows = rec
 }
 
 -- the page of an open office
-pub tells_open : {S : Type 0} (state_of : Held S → State) (old new : OfficeValue S) (files : List MessagePartEntry) (what : ServedOrder) (before after : Outputs) (status : ℕ) → old.closed ≡ false
-    → Tells before after status (λ cut page. WhenOpenAt state_of old new (λ s. IsOrderOutcome (state_of old.held) new.closed (state_of new.held) (folder_of files) s what cut page))
-    → Tells before after status (λ cut page. WhenOpenAt state_of old new (λ s. IsOrderOutcome (state_of old.held) new.closed (state_of new.held) (folder_of files) s what cut page)
+pub tells_open : {S : Type 0} (state_of : Held S → State) (change : RecordChange) (old new : OfficeValue S) (files : List MessagePartEntry) (what : ServedOrder) (before after : Outputs) (status : ℕ) → old.closed ≡ false
+    → Tells before after status (λ cut page. WhenOpenAt state_of old new (λ s. IsOrderOutcome change (state_of old.held) new.closed (state_of new.held) (folder_of files) s what cut page))
+    → Tells before after status (λ cut page. WhenOpenAt state_of old new (λ s. IsOrderOutcome change (state_of old.held) new.closed (state_of new.held) (folder_of files) s what cut page)
     × (old.closed ≡ true → page ≡ closed_office_page what))
-tells_open {S} state_of old new files what before after status is_open it =
+tells_open {S} state_of change old new files what before after status is_open it =
     record { page = it.page; cut = it.cut; shown = it.shown; is = (it.is, λ closed. absurd (true≢false (sym closed ∙ is_open))) }
 
 -- ---- what is requested
@@ -161,17 +162,27 @@ order_unread file got message fault is (inl wanting) = inl (ap (λ (f : Fault). 
 order_unread file got message fault is (inr (store, none)) = subst (λ (f : Fault). IsUnread file got (asked.Refused (Office f))) (sym store) (no_order file got message is none)
 
 -- an order that wasn't decoded is refused
-pub follows_unread : {S : Type 0} (settings : ServerSettingsEntry) (state_of : Held S → State) (old new : OfficeValue S) (got frames : List ℕ) (files : List MessagePartEntry) (what : ServedOrder)
-    → IsUnread settings.file got what → files ≡ [] → IsResponseToOrder state_of old files what frames new → FollowsOrder settings state_of old got frames new
-follows_unread {S} settings state_of old new got frames files what unread none tells = record { files = files; asked = what; is = inr (unread, none); tells = tells }
+pub follows_unread : {S : Type 0} (settings : ServerSettingsEntry) (state_of : Held S → State) (change : RecordChange) (old new : OfficeValue S) (got frames : List ℕ) (files : List MessagePartEntry) (what : ServedOrder)
+    → IsUnread settings.file got what → files ≡ [] → BeginsUnfailed change.had_failed what → (change.had_failed ≡ false → change.has_failed ≡ true → settings.recorded ≡ true)
+    → IsResponseToOrder state_of change old files what frames new → FollowsOrder settings state_of change old got frames new
+follows_unread {S} settings state_of change old new got frames files what unread none begins fails tells =
+    record { files = files; asked = what; is = inr (unread, none); begins = begins; fails = fails; tells = tells }
 
 -- an order that was decoded is carried out, with the words and files that were decoded
-pub follows_read : {S : Type 0} (settings : ServerSettingsEntry) (state_of : Held S → State) (old new : OfficeValue S) (got frames : List ℕ) (h : OrderMessage)
+pub follows_read : {S : Type 0} (settings : ServerSettingsEntry) (state_of : Held S → State) (change : RecordChange) (old new : OfficeValue S) (got frames : List ℕ) (h : OrderMessage)
     (files : List MessagePart) (what : ServedOrder)
-    → IsMessage got (order_message_entry h) → IsForFile settings.file (order_message_entry h) → files ≡ h.files.items → AsksSo settings.whole (words_in (order_message_entry h)) what
-    → IsResponseToOrder state_of old (message_part_entries files) what frames new → FollowsOrder settings state_of old got frames new
-follows_read {S} settings state_of old new got frames h files what message for_file same asks tells =
-    record { files = message_part_entries files; asked = what; is = inl (order_message_entry h, message, for_file, ap message_part_entries same, asks); tells = tells }
+    → IsMessage got (order_message_entry h) → IsForFile settings.file (order_message_entry h) → files ≡ h.files.items
+    → AsksSo settings.whole settings.recorded (words_in (order_message_entry h)) what → BeginsUnfailed change.had_failed what
+    → (change.had_failed ≡ false → change.has_failed ≡ true → settings.recorded ≡ true)
+    → IsResponseToOrder state_of change old (message_part_entries files) what frames new → FollowsOrder settings state_of change old got frames new
+follows_read {S} settings state_of change old new got frames h files what message for_file same asks begins fails tells = record {
+  files = message_part_entries files;
+  asked = what;
+  is = inl (order_message_entry h, message, for_file, ap message_part_entries same, asks);
+  begins = begins;
+  fails = fails;
+  tells = tells;
+}
 
 pub words_same : (h : OrderMessage) (seen : List MessagePart) (texts words : List (Bor (List ℕ))) → seen ≡ h.words.items
     → map (λ (t : Bor (List ℕ)). t.now) texts ≡ map (λ (p : MessagePart). p.name.now) seen → words ≡ texts → words_in (order_message_entry h) ≡ map (λ (t : Bor (List ℕ)). t.now) words

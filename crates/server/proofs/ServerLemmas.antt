@@ -8,8 +8,7 @@ use Rattle.std.proofs.lemmas.List.{get_or-set_same, get_or_default, get_or_read,
 use Rattle.std.proofs.lemmas.List.Edits.{length-insert}
 use Rattle.std.proofs.lemmas.List.Elements.{All-nil, All-push}
 use Rattle.std.proofs.lemmas.List.Sums.{sum_by-append}
-use Rattle.sqlite.specs.Held.{Held}
-use Rattle.sqlite.specs.State.{HasCleanDisk, State}
+use Rattle.sqlite.specs.State.{HasCleanDisk}
 use Rattle.office.specs.Values.{OfficeValue}
 use Rattle.streams.specs.declared.streams.Broken.{Broken}
 use Rattle.connections.specs.Removals.{removed_of}
@@ -29,10 +28,11 @@ use Rattle.connections.specs.declared.connection_table.ConnectionTable.{Connecti
 use Rattle.connections.proofs.StreamLemmas.{heard_more}
 use Rattle.server.specs.ServedConnections.{AreOpen, ServedConnection, HasExchangeFor, WasClosed, IsGathered, IsOpenUnder, IsSound, IsOpenConnection, HadExchange, exchanges_of}
 use Rattle.connections.specs.Closing.{AreClosedByRule, EndsFor, IsClosed, IsClosedByRule, IsClosedForBytes, MayBeClosed, timeout_rule, timeout}
-use Rattle.server.specs.Servers.{GoesOn, GoesOnServing, RemovesMore, IsCalled, IsNumbered, IsSettled, IsUnfailed, AcceptsMore, OnMoved, ServesConnections, ServesFrom, is_idle}
+use Rattle.server.specs.Servers.{GoesOn, GoesOnServing, RemovesMore, IsCalled, IsNumbered, IsSettled, IsUnfailed, AcceptsMore, OnMoved, ServesFrom, ServesRecorded, is_idle}
 use Rattle.server.specs.declared.serve_error.ServeError.{ServeError}
 use Rattle.server.specs.declared.serve_error.ServeError.TheVariants as ended
 use Rattle.server.specs.Reads.{ServedOffice, MemoryEntry, served_office, with_none_kept}
+use Rattle.server.specs.RecordChanges.{ServedView}
 use Rattle.server.specs.Settings.{ServerSettingsEntry}
 use Rattle.server.specs.Servicing.{HasComeAt, HasResponded, HasExchanges, IsAtGate, HasSentNothing, WasServiced, answer_of, moment_of, response_at}
 use Rattle.server.specs.Exchanges.{ServesExchange, Exchange}
@@ -289,12 +289,12 @@ module _ {L : Type 0} (settings : ServerSettingsEntry) (stream : Stream L) where
       )
 
   -- the connection's request, which is complete, was processed
-  had_turn : {S : Type 0} (state_of : Held S → State) (connection : ServedConnection L) (exchanges : List Exchange) (now : ℕ) (old new : Client L) (before later : ServedOffice S)
-      → (turn : HasResponded settings stream state_of now old new before later)
+  had_turn : {S R : Type 0} (view : ServedView S R) (connection : ServedConnection L) (exchanges : List Exchange) (now : ℕ) (old new : Client L) (before later : ServedOffice S R)
+      → (turn : HasResponded settings stream view now old new before later)
       → ((start : L) → IsOf stream start old → IsOf stream start new) → IsOpenConnection stream exchanges connection old
       → IsOf stream connection.came.stream new × HasExchangeFor (answer_of new) (exchanges_of old.number (exchanges ++ turn.exchange ∷ []))
       × ((exchange : Exchange) → exchanges_of old.number (exchanges ++ turn.exchange ∷ []) ≡ exchange ∷ [] → IsGathered settings stream connection.came exchange)
-  had_turn state_of connection exchanges now old new before later turn is stood =
+  had_turn view connection exchanges now old new before later turn is stood =
       let none : exchanges_of old.number exchanges ≡ [] =
       subst (λ (a : Option PendingResponse). HasExchangeFor (option_map (λ (x : PendingResponse). x.bytes.items) a) (exchanges_of old.number exchanges)) turn.unanswered stood.belongs in
       let first = first_under old.number exchanges turn.exchange none turn.number in
@@ -314,17 +314,17 @@ module _ {L : Type 0} (settings : ServerSettingsEntry) (stream : Stream L) where
   room_with table place client = record table { clients = with_item table.clients place client }
 
   -- a connection was serviced, with the given exchanges
-  abbrev pub ServesJust : {S : Type 0} → (Held S → State) → List Exchange → NetworkEntry L → NetworkEntry L → ConnectionTable L → ConnectionTable L → ServedOffice S → ServedOffice S → Type 0
-  ServesJust state_of exchanges before later old new at behind = (it : GoesOnServing settings stream state_of before later old new at behind) × (it.exchanges ≡ exchanges)
+  abbrev pub ServesJust : {S R : Type 0} → ServedView S R → List Exchange → NetworkEntry L → NetworkEntry L → ConnectionTable L → ConnectionTable L → ServedOffice S R → ServedOffice S R → Type 0
+  ServesJust view exchanges before later old new at behind = (it : GoesOnServing settings stream view before later old new at behind) × (it.exchanges ≡ exchanges)
 
   -- a connection was serviced, and is back in its place
-  pub goes_on_at : {S : Type 0} (state_of : Held S → State) (before later : NetworkEntry L) (table after : ConnectionTable L) (place : ℕ) (old new : Client L)
-      (at behind : ServedOffice S) (now : ℕ) (exchanges : List Exchange) → IsStill before later
+  pub goes_on_at : {S R : Type 0} (view : ServedView S R) (before later : NetworkEntry L) (table after : ConnectionTable L) (place : ℕ) (old new : Client L)
+      (at behind : ServedOffice S R) (now : ℕ) (exchanges : List Exchange) → IsStill before later
       → place < length table.clients.items → old ≡ get_or table.clients.items place old → new.listener ≡ old.listener → new.number ≡ old.number
       → ((start : L) → IsOf stream start old → IsOf stream start new)
-      → HasExchanges settings stream state_of now exchanges old new at behind → after.clients.items ≡ set table.clients.items place new → after.came ≡ table.came → after.counted ≡ table.counted
-      → ServesJust state_of exchanges before later table after at behind
-  goes_on_at state_of before later table after place old new at behind now (exchange ∷ []) (same_in, same_left) within here listener number is (turn, one) items came counted = (
+      → HasExchanges settings stream view now exchanges old new at behind → after.clients.items ≡ set table.clients.items place new → after.came ≡ table.came → after.counted ≡ table.counted
+      → ServesJust view exchanges before later table after at behind
+  goes_on_at view before later table after place old new at behind now (exchange ∷ []) (same_in, same_left) within here listener number is (turn, one) items came counted = (
     record {
       exchanges = turn.exchange ∷ [];
       each = (behind, turn.served, refl);
@@ -337,7 +337,7 @@ module _ {L : Type 0} (settings : ServerSettingsEntry) (stream : Stream L) where
         own = λ all_connections earlier left are.
             let (all, all_came, all_are) = one_went_on settings stream all_connections earlier (turn.exchange ∷ []) left table.came table.clients.items place old new are within here listener number
             (All-push (λ (v : Exchange). v.number ≡ old.number) [] turn.exchange (All-nil (λ (v : Exchange). v.number ≡ old.number)) turn.number)
-            (λ connection stood went. had_turn state_of connection earlier now old new at behind turn is stood) in (
+            (λ connection stood went. had_turn view connection earlier now old new at behind turn is stood) in (
               all,
               all_came ∙ sym (append-nil (map (λ (g : ServedConnection L). g.came) all_connections)),
               subst (λ (ls : List (Removed L)). AreOpen settings stream all (earlier ++ turn.exchange ∷ []) ls after.came after.clients.items) (sym (append-nil left))
@@ -347,7 +347,7 @@ module _ {L : Type 0} (settings : ServerSettingsEntry) (stream : Stream L) where
     },
     ap (λ (v : Exchange). v ∷ []) one,
   )
-  goes_on_at state_of before later table after place old new at behind now [] (same_in, same_left) within here listener number is (same, answer) items came counted = (
+  goes_on_at view before later table after place old new at behind now [] (same_in, same_left) within here listener number is (same, answer) items came counted = (
     record {
       exchanges = [];
       each = sym same;
@@ -370,11 +370,11 @@ module _ {L : Type 0} (settings : ServerSettingsEntry) (stream : Stream L) where
     },
     refl,
   )
-  goes_on_at state_of before later table after place old new at behind now (exchange ∷ other ∷ more) still within here listener number is never items came counted = absurd never
+  goes_on_at view before later table after place old new at behind now (exchange ∷ other ∷ more) still within here listener number is never items came counted = absurd never
 
   -- ---- an office that serves the connections
 
-  module _ {S : Type 0} (state_of : Held S → State) where
+  module _ {S R : Type 0} (view : ServedView S R) where
     abbrev gated : Bool
     gated = is_some settings.clients.gate
 
@@ -383,21 +383,21 @@ module _ {L : Type 0} (settings : ServerSettingsEntry) (stream : Stream L) where
     CourseBy exchanges before later old new = (from : Option ℕ) → (to : Option ℕ) × Trace gated stream (map response_at exchanges) from to before later old new
 
     -- no request was processed
-    pub serves_none : (before later : NetworkEntry L) (old new : ConnectionTable L) (office : ServedOffice S) → GoesOn settings stream [] before later old new
+    pub serves_none : (before later : NetworkEntry L) (old new : ConnectionTable L) (office : ServedOffice S R) → GoesOn settings stream [] before later old new
         → CourseBy [] before later old.clients.items new.clients.items
-        → ServesFrom settings stream state_of before later old new office office
+        → ServesFrom settings stream view before later old new office office
     serves_none before later old new office goes trace = λ from. let (to, it) = trace from in (to, record { exchanges = []; each = refl; goes_on = goes }, it)
 
-    pub serves_then : (before mid later : NetworkEntry L) (old went new : ConnectionTable L) (at between behind : ServedOffice S)
-        → ServesFrom settings stream state_of before mid old went at between → ServesFrom settings stream state_of mid later went new between behind
-        → ServesFrom settings stream state_of before later old new at behind
+    pub serves_then : (before mid later : NetworkEntry L) (old went new : ConnectionTable L) (at between behind : ServedOffice S R)
+        → ServesFrom settings stream view before mid old went at between → ServesFrom settings stream view mid later went new between behind
+        → ServesFrom settings stream view before later old new at behind
     serves_then before mid later old went new at between behind first next = λ from.
         let (between_shown, a, first_course) = first from in
         let (to, b, next_course) = next between_shown in (
           to,
           record {
             exchanges = a.exchanges ++ b.exchanges;
-            each = folds_then (ServesExchange settings state_of) a.exchanges b.exchanges at between behind a.each b.each;
+            each = folds_then (ServesExchange settings view) a.exchanges b.exchanges at between behind a.each b.each;
             goes_on = goes_then a.exchanges b.exchanges before mid later old went new a.goes_on b.goes_on;
           },
           subst (λ (ts : List ResponseAt). Trace gated stream ts from to before later old.clients.items new.clients.items) (sym (map-append response_at a.exchanges b.exchanges))
@@ -406,29 +406,29 @@ module _ {L : Type 0} (settings : ServerSettingsEntry) (stream : Stream L) where
         )
 
     -- a connection had the given exchanges
-    serves_just : (exchanges : List Exchange) (before later : NetworkEntry L) (old new : ConnectionTable L) (at behind : ServedOffice S) → ServesJust state_of exchanges before later old new at behind
-        → CourseBy exchanges before later old.clients.items new.clients.items → ServesFrom settings stream state_of before later old new at behind
+    serves_just : (exchanges : List Exchange) (before later : NetworkEntry L) (old new : ConnectionTable L) (at behind : ServedOffice S R) → ServesJust view exchanges before later old new at behind
+        → CourseBy exchanges before later old.clients.items new.clients.items → ServesFrom settings stream view before later old new at behind
     serves_just exchanges before later old new at behind (it, just) trace = λ from.
         let (to, so) = trace from in
         (to, it, subst (λ (vs : List Exchange). Trace gated stream (map response_at vs) from to before later old.clients.items new.clients.items) (sym just) so)
 
     -- what is known about the network is unchanged
-    pub serves_still : (before later : NetworkEntry L) (table : ConnectionTable L) (office : ServedOffice S) → later ≡ before
-        → ServesFrom settings stream state_of before later table table office office
+    pub serves_still : (before later : NetworkEntry L) (table : ConnectionTable L) (office : ServedOffice S R) → later ≡ before
+        → ServesFrom settings stream view before later table table office office
     serves_still before later table office is =
         serves_none before later table table office (goes_none before later table (still_known before later is))
         (λ from. (from, trace_none gated stream from before later table.clients.items (ap (λ (d : NetworkEntry L). d.events) is)))
 
     -- a connection that isn't open was reported
-    pub serves_nobody : (number : ℕ) (before later : NetworkEntry L) (table : ConnectionTable L) (office : ServedOffice S) → later ≡ after_ready (Some number) before
-        → ServesFrom settings stream state_of before later table table office office
+    pub serves_nobody : (number : ℕ) (before later : NetworkEntry L) (table : ConnectionTable L) (office : ServedOffice S R) → later ≡ after_ready (Some number) before
+        → ServesFrom settings stream view before later table table office office
     serves_nobody number before later table office is =
         serves_none before later table table office (goes_none before later table (ap (λ (d : NetworkEntry L). d.came) is, ap (λ (d : NetworkEntry L). d.left) is))
         (λ from. (from, course_misses gated stream from number before later table.clients.items is))
 
     -- connections were closed until the bytes in memory were within the limit
-    pub serves_within : (before later : NetworkEntry L) (old new : ConnectionTable L) (office : ServedOffice S) → AreClosedByRule IsClosedForBytes before later old new
-        → ServesFrom settings stream state_of before later old new office office
+    pub serves_within : (before later : NetworkEntry L) (old new : ConnectionTable L) (office : ServedOffice S R) → AreClosedByRule IsClosedForBytes before later old new
+        → ServesFrom settings stream view before later old new office office
     serves_within before later old new office gone =
         serves_none before later old new office (goes_without IsClosedForBytes bytes_outs before later old new gone)
         (λ from. (from, course_closes gated stream IsClosedForBytes from (bytes_due gated stream from) before later old new gone))
@@ -436,15 +436,15 @@ module _ {L : Type 0} (settings : ServerSettingsEntry) (stream : Stream L) where
     -- ---- a connection that was reported was serviced
 
     -- the connection's exchanges match the responses listed
-    had_turns : (gate : Option ℕ) (exchanges : List Exchange) (old new : Client L) (at behind : ServedOffice S)
-        → HasExchanges settings stream state_of (moment_of gate) exchanges old new at behind → IsAtGate gated gate exchanges
+    had_turns : (gate : Option ℕ) (exchanges : List Exchange) (old new : Client L) (at behind : ServedOffice S R)
+        → HasExchanges settings stream view (moment_of gate) exchanges old new at behind → IsAtGate gated gate exchanges
         → HadResponses gated gate (map response_at exchanges) old new
     had_turns gate [] old new at behind (same, answer) at_gate = answer
     had_turns gate (exchange ∷ []) old new at behind (turn, one) at_gate =
         (sym (ap (λ (v : Exchange). v.number) one) ∙ turn.number, turn.unanswered, turn.belongs ∙ ap (λ (v : Exchange). Some v.answer) one, at_gate)
     had_turns gate (exchange ∷ other ∷ more) old new at behind never at_gate = absurd never
 
-    module _ (before ready : NetworkEntry L) (table : ConnectionTable L) (place number : ℕ) (old new : Client L) (at behind : ServedOffice S)
+    module _ (before ready : NetworkEntry L) (table : ConnectionTable L) (place number : ℕ) (old new : Client L) (at behind : ServedOffice S R)
         (named : ready ≡ after_ready (Some number) before) (within : place < length table.clients.items)
         (here : old ≡ get_or table.clients.items place old) (numbered : IsNumbered table.clients.items place number) (listener : new.listener ≡ old.listener) (same : new.number ≡ old.number)
         (is : (start : L) → IsOf stream start old → IsOf stream start new) where
@@ -455,49 +455,49 @@ module _ {L : Type 0} (settings : ServerSettingsEntry) (stream : Stream L) where
       named_still later (in_same, left_same) = (in_same ∙ ap (λ (d : NetworkEntry L). d.came) named, left_same ∙ ap (λ (d : NetworkEntry L). d.left) named)
 
       serves_back : (result : Result (Option CloseReason) Broken) (later : NetworkEntry L) (taken back : ConnectionTable L)
-          → (went : WasServiced gated settings stream state_of result ready later old new at behind)
+          → (went : WasServiced gated settings stream view result ready later old new at behind)
           → CourseBy went.exchanges before later table.clients.items (set table.clients.items place new)
           → taken.clients.items ≡ remove table.clients.items place → back.clients.items ≡ insert taken.clients.items place new → back.came ≡ table.came → back.counted ≡ table.counted
-          → ServesFrom settings stream state_of before later table back at behind
+          → ServesFrom settings stream view before later table back at behind
       serves_back result later taken back went trace out items came counted =
           let again : back.clients.items ≡ set table.clients.items place new =
           items ∙ ap (λ (cs : List (Client L)). insert cs place new) out ∙ set_again table.clients.items place new within in
           serves_just went.exchanges before later table back at behind
-          (goes_on_at state_of before later table back place old new at behind (moment_of went.gate) went.exchanges
+          (goes_on_at view before later table back place old new at behind (moment_of went.gate) went.exchanges
           (named_still later (still_comes stream (map response_at went.exchanges) old new result went.gate ready later went.comes)) within here listener same is went.had again came counted)
           (subst (λ (cs : List (Client L)). CourseBy went.exchanges before later table.clients.items cs) (sym again) trace)
 
       -- it is back in its place
-      pub serves_stays : (later : NetworkEntry L) (taken back : ConnectionTable L) → WasServiced gated settings stream state_of (Ok None) ready later old new at behind
+      pub serves_stays : (later : NetworkEntry L) (taken back : ConnectionTable L) → WasServiced gated settings stream view (Ok None) ready later old new at behind
           → taken.clients.items ≡ remove table.clients.items place → back.clients.items ≡ insert taken.clients.items place new → back.came ≡ table.came → back.counted ≡ table.counted
-          → ServesFrom settings stream state_of before later table back at behind
+          → ServesFrom settings stream view before later table back at behind
       serves_stays later taken back went out items came counted =
           serves_back (Ok None) later taken back went
           (λ from. course_stays gated stream from table.clients.items place number old new went.gate (map response_at went.exchanges) within here his_number (listener, same) is
           (had_turns went.gate went.exchanges old new at behind went.had went.at_gate) before ready later named went.comes) out items came counted
 
       -- the connection is back in its place, and the clock failed
-      pub serves_stops : (broken : Broken) (later : NetworkEntry L) (taken back : ConnectionTable L) → WasServiced gated settings stream state_of (Err broken) ready later old new at behind
+      pub serves_stops : (broken : Broken) (later : NetworkEntry L) (taken back : ConnectionTable L) → WasServiced gated settings stream view (Err broken) ready later old new at behind
           → taken.clients.items ≡ remove table.clients.items place → back.clients.items ≡ insert taken.clients.items place new → back.came ≡ table.came → back.counted ≡ table.counted
-          → ServesFrom settings stream state_of before later table back at behind
+          → ServesFrom settings stream view before later table back at behind
       serves_stops broken later taken back went out items came counted =
           serves_back (Err broken) later taken back went
           (λ from. course_stops gated stream from table.clients.items place number old new went.gate (map response_at went.exchanges) within here his_number (listener, same) is
           (had_turns went.gate went.exchanges old new at behind went.had went.at_gate) broken before ready later named went.comes) out items came counted
 
       -- it was closed
-      pub serves_leaves : (why : CloseReason) (mid later : NetworkEntry L) (left : ConnectionTable L) → WasServiced gated settings stream state_of (Ok (Some why)) ready mid old new at behind
+      pub serves_leaves : (why : CloseReason) (mid later : NetworkEntry L) (left : ConnectionTable L) → WasServiced gated settings stream view (Ok (Some why)) ready mid old new at behind
           → later ≡ with_removed mid (removed_of new why)
-          → left.clients.items ≡ remove table.clients.items place → left.came ≡ table.came → left.counted ≡ table.counted → ServesFrom settings stream state_of before later table left at behind
+          → left.clients.items ≡ remove table.clients.items place → left.came ≡ table.came → left.counted ≡ table.counted → ServesFrom settings stream view before later table left at behind
       serves_leaves why mid later left went back items came counted =
           let stands = room_with table place new in
-          let (it, just) = goes_on_at state_of before mid table stands place old new at behind (moment_of went.gate) went.exchanges
+          let (it, just) = goes_on_at view before mid table stands place old new at behind (moment_of went.gate) went.exchanges
           (named_still mid (still_comes stream (map response_at went.exchanges) old new (Ok (Some why)) went.gate ready mid went.comes)) within here listener same is went.had refl refl refl in
           let (since, ends, known) = went.comes in
           serves_just went.exchanges before later table left at behind (
             record {
               exchanges = it.exchanges ++ [];
-              each = folds_then (ServesExchange settings state_of) it.exchanges [] at behind behind it.each refl;
+              each = folds_then (ServesExchange settings view) it.exchanges [] at behind behind it.each refl;
               goes_on = goes_then it.exchanges [] before mid later table stands left it.goes_on
                   (goes_less mid later stands left place new why back (omega (arith, within, length-set table.clients.items place new))
                   (λ d. sym (get_or-set_same table.clients.items place new d within))
@@ -511,9 +511,9 @@ module _ {L : Type 0} (settings : ServerSettingsEntry) (stream : Stream L) where
 
       -- it was closed, or is back in its place
       pub serves_settled : (reason : Option CloseReason) (mid later : NetworkEntry L) (taken left : ConnectionTable L)
-          → WasServiced gated settings stream state_of (Ok reason) ready mid old new at behind
+          → WasServiced gated settings stream view (Ok reason) ready mid old new at behind
           → taken.clients.items ≡ remove table.clients.items place → taken.came ≡ table.came → taken.counted ≡ table.counted → IsSettled reason place new mid later taken left
-          → ServesFrom settings stream state_of before later table left at behind
+          → ServesFrom settings stream view before later table left at behind
       serves_settled (Some why) mid later taken left went out came counted (closed, still) =
           serves_leaves why mid later left went closed (ap (λ (t : ConnectionTable L). t.clients.items) still ∙ out) (ap (λ (t : ConnectionTable L). t.came) still ∙ came)
           (ap (λ (t : ConnectionTable L). t.counted) still ∙ counted)
@@ -524,13 +524,14 @@ module _ {L : Type 0} (settings : ServerSettingsEntry) (stream : Stream L) where
     -- ---- a round
 
     -- no further request was processed
-    pub serves_more : (before mid later : NetworkEntry L) (old went new : ConnectionTable L) (at behind : ServedOffice S) → ServesFrom settings stream state_of before mid old went at behind
-        → GoesOn settings stream [] mid later went new → CourseBy [] mid later went.clients.items new.clients.items → ServesFrom settings stream state_of before later old new at behind
+    pub serves_more : (before mid later : NetworkEntry L) (old went new : ConnectionTable L) (at behind : ServedOffice S R) → ServesFrom settings stream view before mid old went at behind
+        → GoesOn settings stream [] mid later went new → CourseBy [] mid later went.clients.items new.clients.items → ServesFrom settings stream view before later old new at behind
     serves_more before mid later old went new at behind on more trace = serves_then before mid later old went new at behind behind on (serves_none mid later went new behind more trace)
 
     -- there was no room, so no connection was accepted
-    pub nobody_served : (before : NetworkEntry L) (most : Option ℕ) (at : OfficeValue S) → ServesConnections settings stream state_of before before most at at (Err ended.Memory)
-    nobody_served before most at = record {
+    pub nobody_served : (before : NetworkEntry L) (most : Option ℕ) (at : OfficeValue S) (recorder : R)
+        → ServesRecorded settings stream view before before most at at recorder (Err ended.Memory) recorder
+    nobody_served before most at recorder = record {
       all_connections = [];
       exchanges = [];
       gone = [];
@@ -553,9 +554,11 @@ module _ {L : Type 0} (settings : ServerSettingsEntry) (stream : Stream L) where
         idle = tt;
       };
       moved = tt;
-      kept = (with_none_kept at).kept;
+      kept = (with_none_kept at recorder).kept;
       each = refl;
-      keeps = λ clean is_open earlier rests. kept_of settings state_of earlier [] at (with_none_kept at) refl clean is_open rests;
+      kept_recorder = refl;
+      keeps = λ clean is_open earlier rests. (kept_of settings view earlier [] at recorder (with_none_kept at recorder) refl clean is_open rests).kept;
+      recorded = λ clean is_open earlier rests. (kept_of settings view earlier [] at recorder (with_none_kept at recorder) refl clean is_open rests).recorded;
     }
       where
         none_few : (most : Option ℕ) → IfSome most (λ n. 0 ≤ n)
@@ -563,19 +566,19 @@ module _ {L : Type 0} (settings : ServerSettingsEntry) (stream : Stream L) where
         none_few (Some n) = omega arith
 
     -- a closed office stays as it is
-    pub serving_closed : (before later : NetworkEntry L) (old new : ConnectionTable L) (at : OfficeValue S) (kept : MemoryEntry) (behind : ServedOffice S)
-        → ServesFrom settings stream state_of before later old new (served_office at kept) behind
+    pub serving_closed : (before later : NetworkEntry L) (old new : ConnectionTable L) (at : OfficeValue S) (kept : MemoryEntry R) (behind : ServedOffice S R)
+        → ServesFrom settings stream view before later old new (served_office at kept) behind
         → at.closed ≡ true → behind.office ≡ at
-    serving_closed before later old new at kept behind on closed = let (to, it, trace) = on None in let away = turned_away settings state_of it.exchanges
+    serving_closed before later old new at kept behind on closed = let (to, it, trace) = on None in let away = turned_away settings view it.exchanges
         (served_office at kept) behind it.each closed in away.1
 
-    pub serving_clean : (before later : NetworkEntry L) (old new : ConnectionTable L) (at : OfficeValue S) (kept : MemoryEntry) (behind : ServedOffice S)
-        → ServesFrom settings stream state_of before later old new (served_office at kept) behind
-        → HasCleanDisk (state_of behind.office.held) → HasCleanDisk (state_of at.held)
-    serving_clean before later old new at kept behind on clean = let (to, it, trace) = on None in cleans settings state_of it.exchanges (served_office at kept) behind it.each clean
+    pub serving_clean : (before later : NetworkEntry L) (old new : ConnectionTable L) (at : OfficeValue S) (kept : MemoryEntry R) (behind : ServedOffice S R)
+        → ServesFrom settings stream view before later old new (served_office at kept) behind
+        → HasCleanDisk (view.state_of behind.office.held) → HasCleanDisk (view.state_of at.held)
+    serving_clean before later old new at kept behind on clean = let (to, it, trace) = on None in cleans settings view it.exchanges (served_office at kept) behind it.each clean
 
     -- if the table was sound, it is still sound later
-    pub sound_later : (before later : NetworkEntry L) (old new : ConnectionTable L) (at behind : ServedOffice S) → ServesFrom settings stream state_of before later old new at behind
+    pub sound_later : (before later : NetworkEntry L) (old new : ConnectionTable L) (at behind : ServedOffice S R) → ServesFrom settings stream view before later old new at behind
         → IsSound settings stream old → IsSound settings stream new
     sound_later before later old new at behind on (all_connections, exchanges, left, are) =
         let (to, it, trace) = on None in let (all, came, now) = it.goes_on.own all_connections exchanges left are in (all, exchanges ++ it.exchanges, left ++ it.goes_on.gone, now)
@@ -585,16 +588,16 @@ module _ {L : Type 0} (settings : ServerSettingsEntry) (stream : Stream L) where
     none_is_in k clients none it = let some = it.within in let zero : length clients ≡ 0 = ap (λ (cs : List (Client L)). length cs) none in omega (arith, some, zero)
 
     -- what happened to all accepted connections, if none was open at first and those open at the end were closed
-    pub hall_serves : (before end later : NetworkEntry L) (most : Option ℕ) (old went new : ConnectionTable L) (at : OfficeValue S) (kept : MemoryEntry)
-        (behind : ServedOffice S) (result : Result (Unit {0}) ServeError)
-        → kept ≡ (with_none_kept at).kept → ServesFrom settings stream state_of before end old went (served_office at kept) behind → AreClosedByRule IsClosed end later went new
+    pub hall_serves : (before end later : NetworkEntry L) (most : Option ℕ) (old went new : ConnectionTable L) (at : OfficeValue S) (recorder : R) (kept : MemoryEntry R)
+        (behind : ServedOffice S R) (result : Result (Unit {0}) ServeError)
+        → kept ≡ (with_none_kept at recorder).kept → ServesFrom settings stream view before end old went (served_office at kept) behind → AreClosedByRule IsClosed end later went new
         → old.clients.items ≡ [] → old.came ≡ 0 → old.counted ≡ 0 → new.clients.items ≡ [] → OnOk result (went.clients.items ≡ []) → IfSome most (λ n. new.counted ≤ n)
         → OnOk result (IfSome most (λ n. new.counted ≡ n)) → OnMoved result (list_all is_idle went.clients.items ≡ true) → OnMoved result (settings.whole ≢ Some true)
-        → ServesConnections settings stream state_of before later most at behind.office result
-    hall_serves before end later most old went new at kept behind result unkept on closing none first uncounted empty nobody few all idle moved =
+        → ServesRecorded settings stream view before later most at behind.office recorder result behind.kept.recorder
+    hall_serves before end later most old went new at recorder kept behind result unkept on closing none first uncounted empty nobody few all idle moved =
         let (shown, it, trace) = on None in
         let goes = goes_then it.exchanges [] before end later old went new it.goes_on (goes_without IsClosed closed_outs end later went new closing) in
-        let each = subst (λ (k : MemoryEntry). FoldsTo (ServesExchange settings state_of) (served_office at k) it.exchanges behind) unkept it.each in
+        let each = subst (λ (k : MemoryEntry R). FoldsTo (ServesExchange settings view) (served_office at k) it.exchanges behind) unkept it.each in
         let (all_connections, came, are_so) = goes.own [] [] [] (are_same settings stream [] [] [] 0 old.came [] old.clients.items first none (none_in settings stream)) in
         let are = subst (λ (vs : List Exchange). AreOpen settings stream all_connections vs goes.gone new.came new.clients.items) (append-nil it.exchanges) are_so in
         let sum = goes.counted in
@@ -625,7 +628,9 @@ module _ {L : Type 0} (settings : ServerSettingsEntry) (stream : Stream L) where
           moved = moved;
           kept = behind.kept;
           each = each;
-          keeps = λ clean is_open earlier rests. kept_of settings state_of earlier it.exchanges at behind each clean is_open rests;
+          kept_recorder = refl;
+          keeps = λ clean is_open earlier rests. (kept_of settings view earlier it.exchanges at recorder behind each clean is_open rests).kept;
+          recorded = λ clean is_open earlier rests. (kept_of settings view earlier it.exchanges at recorder behind each clean is_open rests).recorded;
         }
       where
         out : (gone : List (Removed L)) (exchanges : List Exchange) (k : ℕ) (connection : ServedConnection L) → IsOpenUnder new.clients.items k ⊎ WasClosed stream gone exchanges k connection

@@ -10,8 +10,6 @@ use Rattle.connections.specs.declared.removed.CloseReason.{CloseReason}
 use Rattle.connections.specs.declared.removed.CloseReason.TheVariants.{Broken, Closing, Done, Evicted, TimedOut, Unreadable}
 use Rattle.server.specs.declared.servicing.Serviced.{Serviced}
 use Rattle.server.specs.declared.servicing.Serviced.TheVariants.{Leaves, Served, Waits}
-use Rattle.sqlite.specs.Held.{Held}
-use Rattle.sqlite.specs.State.{State}
 use Rattle.wire.specs.Responses.{ResponseEntry, fault_response, waits_response}
 use Rattle.wire.specs.Serving.{IsServed}
 use Rattle.wire.specs.Told.{IsWritten}
@@ -27,12 +25,13 @@ use Rattle.wire.specs.declared.completeness.Completeness.{Completeness}
 use Rattle.wire.specs.declared.completeness.Completeness.TheVariants.{Complete}
 use Rattle.wire.specs.declared.parsed.Parsed.{Parsed}
 use Rattle.connections.proofs.StreamLemmas.{heard_more, told_more, told_none}
+use Rattle.server.specs.RecordChanges.{ServedView}
 use Rattle.server.specs.Settings.{ServerSettingsEntry}
 use Rattle.server.specs.Servicing.{Services, HasComeAt, HasResponded, HasExchanges, IsAtGate, IsCompleteFor, FailsOnlyAsLost}
 use Rattle.server.specs.Servicing.{LooksAtGate, MayHaveResponded, WasServiced, answer_of, moment_of, response_at}
 use Rattle.server.specs.Reads.{ServedOffice}
 use Rattle.server.specs.Endings.{EndsIn}
-use Rattle.server.specs.Exchanges.{IsGoneResponse, IsWaitResponse, ServesExchange, Exchange}
+use Rattle.server.specs.Exchanges.{IsGoneResponse, IsUnrecordedResponse, IsWaitResponse, ServesExchange, Exchange}
 
 pub none_from : {X : Type 0} (found : Option X) → is_some found ≡ false → found ≡ None
 none_from None is = refl
@@ -85,6 +84,10 @@ pub told_gone : (exchange : Exchange) (before after : List ℕ) (served : Ending
     → IsServed (IsWritten (fault_response 113)) (Some before) (Some after) served → IsGoneResponse exchange
 told_gone exchange before after served is_before is_answer it = told_first (fault_response 113) exchange.answer before after served is_before is_answer it
 
+pub told_unrecorded : (exchange : Exchange) (before after : List ℕ) (served : Ending) → before ≡ [] → exchange.answer ≡ after
+    → IsServed (IsWritten (fault_response 112)) (Some before) (Some after) served → IsUnrecordedResponse exchange
+told_unrecorded exchange before after served is_before is_answer it = told_first (fault_response 112) exchange.answer before after served is_before is_answer it
+
 -- if a file isn't whole, it isn't known to be whole
 pub known_gone : (whole : Option Bool) (is_whole : Bool) → IfSome whole (λ (known : Bool). is_whole ≡ known) → is_whole ≡ false → whole ≡ Some true → ⊥
 known_gone whole is_whole it gone known = let same : is_whole ≡ true = subst (λ (w : Option Bool). IfSome w (λ (k : Bool). is_whole ≡ k)) known it in true≢false (sym same ∙ gone)
@@ -123,13 +126,13 @@ module _ {L : Type 0} (stream : Stream L) where
   told_nothing start now got answer sent none received = subst (λ (n : ℕ). IsSent stream now answer n) (sym none) (told_none stream start now got answer received)
 
   -- the connection's request, which is complete, is processed
-  pub has_turn : {S : Type 0} (settings : ServerSettingsEntry) (state_of : Held S → State) (now : ℕ) (old mid new : Client L) (before later : ServedOffice S) → old.answer ≡ None
+  pub has_turn : {S R : Type 0} (settings : ServerSettingsEntry) (view : ServedView S R) (now : ℕ) (old mid new : Client L) (before later : ServedOffice S R) → old.answer ≡ None
       → Receives stream old.stream mid.stream old.got.items mid.got.items → mid.listener ≡ old.listener → mid.number ≡ old.number
       → HasComeAt old.listener settings (stream.held mid.stream) mid.got.items
       → (exchange : Exchange) × (exchange.listener ≡ mid.listener) × (exchange.number ≡ mid.number) × (exchange.moment ≡ now) × (exchange.got ≡ mid.got.items)
-      × ServesExchange settings state_of before exchange later × (answer_of new ≡ Some exchange.answer)
-      → HasResponded settings stream state_of now old new before later
-  has_turn settings state_of now old mid new before later none receives listener number come (exchange, same, mine, at, got, served, belongs) = record {
+      × ServesExchange settings view before exchange later × (answer_of new ≡ Some exchange.answer)
+      → HasResponded settings stream view now old new before later
+  has_turn settings view now old mid new before later none receives listener number come (exchange, same, mine, at, got, served, belongs) = record {
     exchange = exchange;
     listener = same ∙ listener;
     number = mine ∙ number;
@@ -143,19 +146,19 @@ module _ {L : Type 0} (stream : Stream L) where
   }
 
   -- the outcome for a connection whose request was processed, and for one whose request wasn't
-  pub attends_turn : {S : Type 0} (settings : ServerSettingsEntry) (state_of : Held S → State) (now : ℕ) (serviced : Serviced) (old new : Client L) (before later : ServedOffice S)
+  pub attends_turn : {S R : Type 0} (settings : ServerSettingsEntry) (view : ServedView S R) (now : ℕ) (serviced : Serviced) (old new : Client L) (before later : ServedOffice S R)
       → (serviced ≡ Waits → ⊥)
-      → HasResponded settings stream state_of now old new before later → Services settings stream state_of now serviced old new before later
-  attends_turn settings state_of now Waits old new before later apart turn = absurd (apart refl)
-  attends_turn settings state_of now Served old new before later apart turn = turn
-  attends_turn settings state_of now (Leaves why) old new before later apart turn = inl turn
+      → HasResponded settings stream view now old new before later → Services settings stream view now serviced old new before later
+  attends_turn settings view now Waits old new before later apart turn = absurd (apart refl)
+  attends_turn settings view now Served old new before later apart turn = turn
+  attends_turn settings view now (Leaves why) old new before later apart turn = inl turn
 
-  pub attends_none : {S : Type 0} (settings : ServerSettingsEntry) (state_of : Held S → State) (now : ℕ) (serviced : Serviced) (old new : Client L) (before later : ServedOffice S)
+  pub attends_none : {S R : Type 0} (settings : ServerSettingsEntry) (view : ServedView S R) (now : ℕ) (serviced : Serviced) (old new : Client L) (before later : ServedOffice S R)
       → (serviced ≡ Served → ⊥)
-      → later ≡ before → answer_of new ≡ answer_of old → Services settings stream state_of now serviced old new before later
-  attends_none settings state_of now Waits old new before later apart same answer = (same, answer)
-  attends_none settings state_of now Served old new before later apart same answer = absurd (apart refl)
-  attends_none settings state_of now (Leaves why) old new before later apart same answer = inr (same, answer)
+      → later ≡ before → answer_of new ≡ answer_of old → Services settings stream view now serviced old new before later
+  attends_none settings view now Waits old new before later apart same answer = (same, answer)
+  attends_none settings view now Served old new before later apart same answer = absurd (apart refl)
+  attends_none settings view now (Leaves why) old new before later apart same answer = inr (same, answer)
 
   -- a connection that can't be read is closed as broken or unreadable
   pub ends_lost : {A : Type 0} (result : Result A CloseReason) (why : CloseReason) (client : Client L) → result ≡ Err why → FailsOnlyAsLost result
@@ -169,27 +172,27 @@ module _ {L : Type 0} (stream : Stream L) where
   ends_lost result Closing client is lost broken none = absurd (lost.3 is)
 
   -- the exchanges of a connection, given its outcome
-  pub has_some : {S : Type 0} (settings : ServerSettingsEntry) (state_of : Held S → State) (now : ℕ) (old new : Client L) (before later : ServedOffice S)
-      → MayHaveResponded settings stream state_of now old new before later
-      → (exchanges : List Exchange) × HasExchanges settings stream state_of now exchanges old new before later
-  has_some settings state_of now old new before later (inl turn) = (turn.exchange ∷ [], (turn, refl))
-  has_some settings state_of now old new before later (inr still) = ([], still)
+  pub has_some : {S R : Type 0} (settings : ServerSettingsEntry) (view : ServedView S R) (now : ℕ) (old new : Client L) (before later : ServedOffice S R)
+      → MayHaveResponded settings stream view now old new before later
+      → (exchanges : List Exchange) × HasExchanges settings stream view now exchanges old new before later
+  has_some settings view now old new before later (inl turn) = (turn.exchange ∷ [], (turn, refl))
+  has_some settings view now old new before later (inr still) = ([], still)
 
   -- ---- the clock at the gate
 
-  abbrev Comes : {S : Type 0} → ServerSettingsEntry → (Held S → State) → ℕ → Result (Option CloseReason) Failure → NetworkEntry L → NetworkEntry L
-      → Client L → Client L → ServedOffice S → ServedOffice S → Type 0
-  Comes settings state_of now result before later old new at behind =
-      (exchanges : List Exchange) × HasExchanges settings stream state_of now exchanges old new at behind × IsServiceOutcome stream (map response_at exchanges) old new result before later
+  abbrev Comes : {S R : Type 0} → ServerSettingsEntry → ServedView S R → ℕ → Result (Option CloseReason) Failure → NetworkEntry L → NetworkEntry L
+      → Client L → Client L → ServedOffice S R → ServedOffice S R → Type 0
+  Comes settings view now result before later old new at behind =
+      (exchanges : List Exchange) × HasExchanges settings stream view now exchanges old new at behind × IsServiceOutcome stream (map response_at exchanges) old new result before later
 
   -- the connection's request was processed, and its half minute starts again
-  pub went_served : {S : Type 0} (settings : ServerSettingsEntry) (state_of : Held S → State) (now : ℕ) (serviced : Serviced) (old mid new : Client L)
-      (at behind : ServedOffice S) (before later : NetworkEntry L)
-      → Services settings stream state_of now serviced old mid at behind → serviced ≡ Served → answer_of new ≡ answer_of mid → later ≡ with_moment before new.since
-      → Comes settings state_of now (Ok None) before later old new at behind
-  went_served settings state_of now serviced old mid new at behind before later attends is same shown =
-      let turn : HasResponded settings stream state_of now old mid at behind = subst (λ (a : Serviced). Services settings stream state_of now a old mid at behind) is attends in
-      let belongs : HasResponded settings stream state_of now old new at behind = record {
+  pub went_served : {S R : Type 0} (settings : ServerSettingsEntry) (view : ServedView S R) (now : ℕ) (serviced : Serviced) (old mid new : Client L)
+      (at behind : ServedOffice S R) (before later : NetworkEntry L)
+      → Services settings stream view now serviced old mid at behind → serviced ≡ Served → answer_of new ≡ answer_of mid → later ≡ with_moment before new.since
+      → Comes settings view now (Ok None) before later old new at behind
+  went_served settings view now serviced old mid new at behind before later attends is same shown =
+      let turn : HasResponded settings stream view now old mid at behind = subst (λ (a : Serviced). Services settings stream view now a old mid at behind) is attends in
+      let belongs : HasResponded settings stream view now old new at behind = record {
         exchange = turn.exchange;
         listener = turn.listener;
         number = turn.number;
@@ -204,60 +207,60 @@ module _ {L : Type 0} (stream : Stream L) where
       (turn.exchange ∷ [], (belongs, refl), inr ((response_at turn.exchange, refl), shown))
 
   -- the connection's request was processed, and then the clock failed
-  pub went_stopped : {S : Type 0} (settings : ServerSettingsEntry) (state_of : Held S → State) (now : ℕ) (serviced : Serviced) (broken : Failure)
-      (old new : Client L) (at behind : ServedOffice S) (before later : NetworkEntry L)
-      → Services settings stream state_of now serviced old new at behind → serviced ≡ Served → new.since ≡ old.since → later ≡ with_failure before
-      → Comes settings state_of now (Err broken) before later old new at behind
-  went_stopped settings state_of now serviced broken old new at behind before later attends is since failed =
-      let turn : HasResponded settings stream state_of now old new at behind = subst (λ (a : Serviced). Services settings stream state_of now a old new at behind) is attends in
+  pub went_stopped : {S R : Type 0} (settings : ServerSettingsEntry) (view : ServedView S R) (now : ℕ) (serviced : Serviced) (broken : Failure)
+      (old new : Client L) (at behind : ServedOffice S R) (before later : NetworkEntry L)
+      → Services settings stream view now serviced old new at behind → serviced ≡ Served → new.since ≡ old.since → later ≡ with_failure before
+      → Comes settings view now (Err broken) before later old new at behind
+  went_stopped settings view now serviced broken old new at behind before later attends is since failed =
+      let turn : HasResponded settings stream view now old new at behind = subst (λ (a : Serviced). Services settings stream view now a old new at behind) is attends in
       (turn.exchange ∷ [], (turn, refl), (since, failed))
 
   -- the connection waits, and its request wasn't processed
-  pub went_waits : {S : Type 0} (settings : ServerSettingsEntry) (state_of : Held S → State) (now : ℕ) (serviced : Serviced) (old new : Client L) (at behind : ServedOffice S) (before : NetworkEntry L)
-      → Services settings stream state_of now serviced old new at behind → serviced ≡ Waits → new.since ≡ old.since → Comes settings state_of now (Ok None) before before old new at behind
-  went_waits settings state_of now serviced old new at behind before attends is since =
-      ([], subst (λ (a : Serviced). Services settings stream state_of now a old new at behind) is attends, inl (refl, since, refl))
+  pub went_waits : {S R : Type 0} (settings : ServerSettingsEntry) (view : ServedView S R) (now : ℕ) (serviced : Serviced) (old new : Client L) (at behind : ServedOffice S R) (before : NetworkEntry L)
+      → Services settings stream view now serviced old new at behind → serviced ≡ Waits → new.since ≡ old.since → Comes settings view now (Ok None) before before old new at behind
+  went_waits settings view now serviced old new at behind before attends is since =
+      ([], subst (λ (a : Serviced). Services settings stream view now a old new at behind) is attends, inl (refl, since, refl))
 
   -- the connection is closed, whether or not its request was processed
-  pub went_away : {S : Type 0} (settings : ServerSettingsEntry) (state_of : Held S → State) (now : ℕ) (serviced : Serviced) (why : CloseReason)
-      (old new : Client L) (at behind : ServedOffice S) (before : NetworkEntry L)
-      → Services settings stream state_of now serviced old new at behind → serviced ≡ Leaves why → new.since ≡ old.since → EndsFor stream why new
-      → Comes settings state_of now (Ok (Some why)) before before old new at behind
-  went_away settings state_of now serviced why old new at behind before attends is since ends =
-      let (exchanges, had) = has_some settings state_of now old new at behind (subst (λ (a : Serviced). Services settings stream state_of now a old new at behind) is attends) in
+  pub went_away : {S R : Type 0} (settings : ServerSettingsEntry) (view : ServedView S R) (now : ℕ) (serviced : Serviced) (why : CloseReason)
+      (old new : Client L) (at behind : ServedOffice S R) (before : NetworkEntry L)
+      → Services settings stream view now serviced old new at behind → serviced ≡ Leaves why → new.since ≡ old.since → EndsFor stream why new
+      → Comes settings view now (Ok (Some why)) before before old new at behind
+  went_away settings view now serviced why old new at behind before attends is since ends =
+      let (exchanges, had) = has_some settings view now old new at behind (subst (λ (a : Serviced). Services settings stream view now a old new at behind) is attends) in
       (exchanges, had, (since, ends, refl))
 
   -- the time of the exchanges that a connection had
-  at_moment : {S : Type 0} (settings : ServerSettingsEntry) (state_of : Held S → State) (gated : Bool) (gate : Option ℕ) (exchanges : List Exchange)
-      (old new : Client L) (at behind : ServedOffice S) → ((moment : ℕ) → moment ≡ moment_of gate → IsMomentOf gated gate moment)
-      → HasExchanges settings stream state_of (moment_of gate) exchanges old new at behind → IsAtGate gated gate exchanges
-  at_moment settings state_of gated gate [] old new at behind is had = tt
-  at_moment settings state_of gated gate (exchange ∷ []) old new at behind is (turn, one) = is exchange.moment (sym (ap (λ (v : Exchange). v.moment) one) ∙ turn.moment)
-  at_moment settings state_of gated gate (exchange ∷ other ∷ more) old new at behind is never = absurd never
+  at_moment : {S R : Type 0} (settings : ServerSettingsEntry) (view : ServedView S R) (gated : Bool) (gate : Option ℕ) (exchanges : List Exchange)
+      (old new : Client L) (at behind : ServedOffice S R) → ((moment : ℕ) → moment ≡ moment_of gate → IsMomentOf gated gate moment)
+      → HasExchanges settings stream view (moment_of gate) exchanges old new at behind → IsAtGate gated gate exchanges
+  at_moment settings view gated gate [] old new at behind is had = tt
+  at_moment settings view gated gate (exchange ∷ []) old new at behind is (turn, one) = is exchange.moment (sym (ap (λ (v : Exchange). v.moment) one) ∙ turn.moment)
+  at_moment settings view gated gate (exchange ∷ other ∷ more) old new at behind is never = absurd never
 
-  pub went_at : {S : Type 0} (gated : Bool) (settings : ServerSettingsEntry) (state_of : Held S → State) (now : ℕ) (result : Result (Option CloseReason) Failure)
-      (before ready later : NetworkEntry L) (old new : Client L) (at behind : ServedOffice S)
-      → LooksAtGate gated (Ok now) before ready → Comes settings state_of now result ready later old new at behind → WasServiced gated settings stream state_of result before later old new at behind
-  went_at true settings state_of now result before ready later old new at behind looked (exchanges, had, comes) = record {
+  pub went_at : {S R : Type 0} (gated : Bool) (settings : ServerSettingsEntry) (view : ServedView S R) (now : ℕ) (result : Result (Option CloseReason) Failure)
+      (before ready later : NetworkEntry L) (old new : Client L) (at behind : ServedOffice S R)
+      → LooksAtGate gated (Ok now) before ready → Comes settings view now result ready later old new at behind → WasServiced gated settings stream view result before later old new at behind
+  went_at true settings view now result before ready later old new at behind looked (exchanges, had, comes) = record {
     gate = Some now;
     exchanges = exchanges;
     had = had;
-    at_gate = at_moment settings state_of true (Some now) exchanges old new at behind (λ moment is. is) had;
+    at_gate = at_moment settings view true (Some now) exchanges old new at behind (λ moment is. is) had;
     comes = subst (λ (d : NetworkEntry L). IsServiceOutcome stream (map response_at exchanges) old new result d later) looked comes;
   }
-  went_at {S} false settings state_of now result before ready later old new at behind (none, still) comes =
+  went_at {S} false settings view now result before ready later old new at behind (none, still) comes =
       let zero : now ≡ 0 = cc none in
-      let (exchanges, had, came) = subst (λ (n : ℕ). Comes settings state_of n result ready later old new at behind) zero comes in record {
+      let (exchanges, had, came) = subst (λ (n : ℕ). Comes settings view n result ready later old new at behind) zero comes in record {
         gate = None;
         exchanges = exchanges;
         had = had;
-        at_gate = at_moment settings state_of false None exchanges old new at behind (λ moment is. is) had;
+        at_gate = at_moment settings view false None exchanges old new at behind (λ moment is. is) had;
         comes = subst (λ (d : NetworkEntry L). IsServiceOutcome stream (map response_at exchanges) old new result d later) still came;
       }
 
   -- the clock failed at the gate, so the connection wasn't serviced
-  pub went_nowhere : {S : Type 0} (gated : Bool) (settings : ServerSettingsEntry) (state_of : Held S → State) (broken : Failure) (before later : NetworkEntry L)
-      (client : Client L) (at : ServedOffice S)
-      → LooksAtGate gated (Err broken) before later → WasServiced gated settings stream state_of (Err broken) before later client client at at
-  went_nowhere true settings state_of broken before later client at looked = record { gate = None; exchanges = []; had = (refl, refl); at_gate = tt; comes = (refl, looked) }
-  went_nowhere false settings state_of broken before later client at (none, still) = absurd (cc none)
+  pub went_nowhere : {S R : Type 0} (gated : Bool) (settings : ServerSettingsEntry) (view : ServedView S R) (broken : Failure) (before later : NetworkEntry L)
+      (client : Client L) (at : ServedOffice S R)
+      → LooksAtGate gated (Err broken) before later → WasServiced gated settings stream view (Err broken) before later client client at at
+  went_nowhere true settings view broken before later client at looked = record { gate = None; exchanges = []; had = (refl, refl); at_gate = tt; comes = (refl, looked) }
+  went_nowhere false settings view broken before later client at (none, still) = absurd (cc none)

@@ -1,5 +1,5 @@
--- What a clerk is sent depends only on what that clerk may see, apart from faults and from the responses saying that the client must wait (429) or that the file is gone (113).
-use Rattle.std.specs.Prelude.{◌≡◌, ◌⊎◌, ⊤, Bool, false, true, List, [], ◌∷◌, Option, Result, Some, map, ℕ}
+-- What a clerk is sent depends only on what that clerk may see, apart from faults and from the responses saying that the client must wait (429), that the file is gone (113) or that the second record failed (112).
+use Rattle.std.specs.Prelude.{◌≡◌, ◌⊎◌, ⊤, Bool, false, true, List, [], ◌∷◌, ◌++◌, Option, Result, Some, map, ℕ}
 use Rattle.sqlite.specs.Held.{Held}
 use Rattle.sqlite.specs.State.{HasCleanDisk, State}
 use Rattle.register.specs.StateConditions.{IsState}
@@ -22,9 +22,10 @@ use Rattle.wire.specs.Told.{IsTold}
 use Rattle.wire.specs.declared.request_error.RequestError.{RequestError}
 use Rattle.server.specs.ServedOrders.{OrderPrints}
 use Rattle.server.specs.ConsoleOrders.{ConsolePrints}
-use Rattle.server.specs.Servers.{ServesConnections}
+use Rattle.server.specs.RecordChanges.{ServedView}
+use Rattle.server.specs.Servers.{ServesConnections, ServesRecorded}
 use Rattle.server.specs.Settings.{ServerSettingsEntry}
-use Rattle.server.specs.Exchanges.{AnswersInTurn, AreRefusedClosed, AsksNoOrder, EndsSo, IsClientAnsweredAt, KeepsExchanges, GetsClosedResponse, Exchange}
+use Rattle.server.specs.Exchanges.{AnswersInTurn, AreRefusedClosed, AsksNoOrder, EndsSo, IsClientAnsweredAt, IsUnrecordedResponse, KeepsExchanges, GetsClosedResponse, Exchange}
 use Rattle.server.specs.declared.serve_error.ServeError.{ServeError}
 
 -- ---- one request, along with a clerk's view of the office
@@ -72,6 +73,30 @@ abbrev pub RespondsBySeen : {S : Type 0} → Listener → (Held S → State) →
 RespondsBySeen Clients state_of settings clerk view exchange next = IsAnsweredBySeen settings clerk view exchange next ⊎ IsConsoleBySeen state_of settings clerk view exchange next
 RespondsBySeen Orders state_of settings clerk view exchange next = IsFollowedBySeen state_of settings clerk view exchange next
 
+-- A clerk's keying wasn't acknowledged, because recording it failed. The response says so. Only the clerk's own keying may lead to another view.
+pub record IsUnrecordedBySeen (settings : ServerSettingsEntry) (clerk : ℕ) (view : OfficeState) (exchange : Exchange) (next : OfficeState) : Type 0 where
+  pub no_order : AsksNoOrder settings.clients exchange.got
+  pub told : IsUnrecordedResponse exchange
+  pub own : (next ≡ view) ⊎ ((request : Request) × (request.actor ≡ clerk) × (next ≡ after view (request ∷ [])))
+  pub other : (IsUnder settings.clients clerk exchange.got → ⊥) → next ≡ view
+
+-- an order printed its page in some state that the clerk sees as the given view; the next view is what the clerk sees after its requests, with or without the last one
+pub record IsPrintedBySeen (Prints : OfficeState → List Request → List Request → Type 0) (clerk : ℕ) (view next : OfficeState) : Type 0 where
+  pub s : OfficeState
+  pub seen : seen_by clerk s ≡ view
+  pub sent : List Request
+  pub last : List Request
+  pub tells : Prints s sent last
+  pub made : (next ≡ seen_by clerk (after s sent)) ⊎ (next ≡ seen_by clerk (after s (sent ++ last)))
+
+-- the record of the office failed during a request
+abbrev pub IsUnacknowledgedBySeen : {S : Type 0} → Listener → (Held S → State) → ServerSettingsEntry → ℕ → OfficeState → Exchange → OfficeState → Type 0
+IsUnacknowledgedBySeen Clients state_of settings clerk view exchange next =
+    IsUnrecordedBySeen settings clerk view exchange next
+    ⊎ IsPrintedBySeen (λ s sent last. ConsolePrints state_of settings s exchange.got exchange.answer sent last) clerk view next
+IsUnacknowledgedBySeen Orders state_of settings clerk view exchange next =
+    IsPrintedBySeen (λ s sent last. OrderPrints state_of settings s exchange.got exchange.answer sent last) clerk view next
+
 -- A fault closed the office. The response to a client that sends no order is the fault, and the output of an order is its output in some state that the clerk sees as
 -- the given view.
 abbrev pub IsStoppedBySeen : {S : Type 0} → Listener → (Held S → State) → ServerSettingsEntry → ℕ → OfficeState → Exchange → Type 0
@@ -81,12 +106,14 @@ IsStoppedBySeen Orders state_of settings clerk view exchange = (next : OfficeSta
 
 -- All requests are processed in turn, and the clerk's view determines the responses to the clerk. The view is changed by the clerk's own requests and by orders, but by
 -- nothing that another clerk sends. Or a fault closed the office during one of the requests, and every later request gets the response saying that the office is
--- closed.
+-- closed. Or the office has a second record, which failed during one of the requests; then that request isn't acknowledged.
 abbrev pub AnswersAsSeen : {S : Type 0} → (Held S → State) → ServerSettingsEntry → ℕ → OfficeState → List Exchange → Type 0
 AnswersAsSeen state_of settings clerk view [] = ⊤
 AnswersAsSeen state_of settings clerk view (exchange ∷ exchanges) =
     ((next : OfficeState) × RespondsBySeen exchange.listener state_of settings clerk view exchange next × AnswersAsSeen state_of settings clerk next exchanges)
-    ⊎ (IsStoppedBySeen exchange.listener state_of settings clerk view exchange × AreRefusedClosed settings exchanges)
+    ⊎ ((IsStoppedBySeen exchange.listener state_of settings clerk view exchange × AreRefusedClosed settings exchanges)
+    ⊎ ((settings.recorded ≡ true)
+    × ((next : OfficeState) × IsUnacknowledgedBySeen exchange.listener state_of settings clerk view exchange next × AnswersAsSeen state_of settings clerk next exchanges)))
 
 -- The law: for any sequence of requests processed from a given state on, what each clerk sees of that state determines the responses to that clerk.
 abbrev pub ClerksAreAnsweredAsSeen : {S : Type 0} → (Held S → State) → Type 0
@@ -108,6 +135,14 @@ ServersAnswerAsSeen {L} {S} stream state_of =
     → (earlier : List Request) → IsAt (after empty_office earlier) (state_of old.held)
     → (clerk : ℕ) → is_clerk clerk ≡ true → AnswersAsSeen state_of settings clerk (seen_by clerk (after empty_office earlier)) it.exchanges
 
+-- the same law for a server whose office has a second record
+abbrev pub RecordedServersAnswerAsSeen : {L S R : Type 0} → Stream L → ServedView S R → Type 0
+RecordedServersAnswerAsSeen {L} {S} {R} stream its =
+    (settings : ServerSettingsEntry) (before later : NetworkEntry L) (most : Option ℕ) (old new : OfficeValue S) (recorder recorder_later : R) (result : Result (Unit {0}) ServeError)
+    → (it : ServesRecorded settings stream its before later most old new recorder result recorder_later) → HasCleanDisk (its.state_of new.held) → old.closed ≡ false
+    → (earlier : List Request) → IsAt (after empty_office earlier) (its.state_of old.held)
+    → (clerk : ℕ) → is_clerk clerk ≡ true → AnswersAsSeen its.state_of settings clerk (seen_by clerk (after empty_office earlier)) it.exchanges
+
 -- ---- two services that look alike to a clerk
 
 -- those exchanges from a list that are under a clerk's number, in order
@@ -122,7 +157,7 @@ abbrev pub AreClients : HttpSettingsEntry → List Exchange → Type 0
 AreClients settings [] = ⊤
 AreClients settings (exchange ∷ exchanges) = (exchange.listener ≡ Clients) × AsksNoOrder settings exchange.got × AreClients settings exchanges
 
--- a client got no answer: there was a fault, the office was closed, its file was gone, or the client had to wait
+-- a client got no answer: there was a fault, the office was closed, its file was gone, its second record had failed, or the client had to wait
 abbrev pub IsUnanswered : ServerSettingsEntry → Exchange → Type 0
 IsUnanswered settings exchange = EndsSo exchange (IsServed TellsFault) ⊎ GetsClosedResponse Clients settings exchange
 

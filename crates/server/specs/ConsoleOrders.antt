@@ -1,5 +1,5 @@
 -- An order sent by the officer's console: what it asks for, its outcome, and its output in one response.
-use Rattle.std.specs.Prelude.{◌≡◌, ◌⊎◌, ◌&&◌, ◌∷◌, List, [], Some, codes, if◌then◌else◌, map, ℕ}
+use Rattle.std.specs.Prelude.{◌≡◌, ◌⊎◌, ◌&&◌, ◌∷◌, false, true, List, [], Some, codes, if◌then◌else◌, map, ℕ}
 use Rattle.std.specs.Str.{is_utf8}
 use Rattle.clap.specs.Words.{Text}
 use Rattle.sqlite.specs.Held.{Held}
@@ -18,7 +18,8 @@ use Rattle.wire.specs.Serving.{IsServed}
 use Rattle.wire.specs.Told.{IsTold}
 use Rattle.wire.specs.declared.response.Response.{Response}
 use Rattle.server.specs.Endings.{EndsIn}
-use Rattle.server.specs.ServedOrders.{AsksSo, Follows, PrintsAt, folder_of, closed_office_page, untold}
+use Rattle.server.specs.RecordChanges.{RecordChange}
+use Rattle.server.specs.ServedOrders.{AsksSo, BeginsUnfailed, Follows, PrintsAt, folder_of, closed_office_page, untold}
 use Rattle.server.specs.Settings.{ServerSettingsEntry}
 use Rattle.server.specs.declared.served_order.ServedOrder.{ServedOrder}
 use Rattle.server.specs.declared.served_order.ServedOrder.TheVariants as asked
@@ -35,7 +36,7 @@ sent_file file = record { name = file.name; bytes = Some file.text }
 
 -- what an order asks for, given the files sent with it; or an allocation failed
 abbrev pub AsksConsole : ServerSettingsEntry → ConsoleOrderEntry → List MessagePartEntry → ServedOrder → Type 0
-AsksConsole settings entry files what = ((files ≡ map sent_file entry.files) × AsksSo settings.whole (typed_words entry.words) what) ⊎ ((what ≡ asked.Refused (Office Memory)) × (files ≡ []))
+AsksConsole settings entry files what = ((files ≡ map sent_file entry.files) × AsksSo settings.whole settings.recorded (typed_words entry.words) what) ⊎ ((what ≡ asked.Refused (Office Memory)) × (files ≡ []))
 
 -- ---- the output
 
@@ -61,18 +62,21 @@ IsInResponse cut page answer = EndsIn answer (IsServed (HasPrinted cut page))
 -- ---- the outcome
 
 -- what an order from the console asks for was carried out, and its page was sent in the given response
-pub record FollowsEntry {S : Type 0} (settings : ServerSettingsEntry) (state_of : Held S → State) (old : OfficeValue S) (entry : ConsoleOrderEntry) (IsSent : Cut → Page → Type 0)
-    (new : OfficeValue S) : Type 0 where
+pub record FollowsEntry {S : Type 0} (settings : ServerSettingsEntry) (state_of : Held S → State) (change : RecordChange) (old : OfficeValue S) (entry : ConsoleOrderEntry)
+    (IsSent : Cut → Page → Type 0) (new : OfficeValue S) : Type 0 where
   pub files : List MessagePartEntry
   pub asked : ServedOrder
   pub is : AsksConsole settings entry files asked
-  pub tells : Follows state_of old files asked IsSent new
+  pub begins : BeginsUnfailed change.had_failed asked
+  pub fails : change.had_failed ≡ false → change.has_failed ≡ true → settings.recorded ≡ true
+  pub tells : Follows state_of change old files asked IsSent new
 
 -- the order from the console that the given bytes contain was processed, with the given response
-pub record FollowsConsole {S : Type 0} (settings : ServerSettingsEntry) (state_of : Held S → State) (old : OfficeValue S) (got answer : List ℕ) (new : OfficeValue S) : Type 0 where
+pub record FollowsConsole {S : Type 0} (settings : ServerSettingsEntry) (state_of : Held S → State) (change : RecordChange) (old : OfficeValue S) (got answer : List ℕ) (new : OfficeValue S)
+    : Type 0 where
   pub entry : ConsoleOrderEntry
   pub asks : Asks settings.clients got (order entry)
-  pub follows : FollowsEntry settings state_of old entry (λ cut page. IsInResponse cut page answer) new
+  pub follows : FollowsEntry settings state_of change old entry (λ cut page. IsInResponse cut page answer) new
 
 -- ---- the output in a given state
 
@@ -86,7 +90,7 @@ pub record ConsolePrints {S : Type 0} (state_of : Held S → State) (settings : 
   pub cut : Cut
   pub page : Page
   pub told : IsInResponse cut page answer
-  pub tells : PrintsAt state_of (folder_of files) s asked cut page sent last
+  pub tells : PrintsAt state_of settings.recorded (folder_of files) s asked cut page sent last
 
 -- the order from the console that the given bytes contain found the office closed, and the response says so
 pub record IsConsoleTurnedAway (settings : ServerSettingsEntry) (got answer : List ℕ) : Type 0 where

@@ -1,4 +1,5 @@
 pub mod Settings
+pub mod RecordChanges
 pub mod ServedOrders
 pub mod Destinations
 pub mod Endings

@@ -1,4 +1,4 @@
--- What the server keeps in memory: the cache of reads, and the wrong codes that were sent.
+-- What the server keeps in memory: the cache of reads, the wrong codes that were sent, and the recorder.
 use Rattle.std.specs.Prelude.{◌≡◌, ◌&&◌, Bool, false, List, [], None, Option, Some, if◌then◌else◌, map, ℕ}
 use Rattle.std.specs.List.{All}
 use Rattle.register.specs.Offices.{OfficeState}
@@ -54,22 +54,23 @@ limit_after (Some authentication) now limit = if authentication.is_wrong then co
 
 -- ---- what is kept in memory
 
--- the cached responses, and the wrong codes sent so far
-pub record MemoryEntry : Type 0 where
+-- the cached responses, the wrong codes sent so far, and the recorder
+pub record MemoryEntry (R : Type 0) : Type 0 where
   pub reads : List ReadEntry
   pub limit : LimitEntry
+  pub recorder : R
 
-abbrev pub memory_entry : ServerState → MemoryEntry
-memory_entry kept = record { reads = reads_in kept.reads; limit = limit_entry kept.limit }
+abbrev pub memory_entry : {R : Type 0} → ServerState R → MemoryEntry R
+memory_entry kept = record { reads = reads_in kept.reads; limit = limit_entry kept.limit; recorder = kept.recorder }
 
 -- an office that is served, together with the server's memory
-pub record ServedOffice (S : Type 0) : Type 0 where
+pub record ServedOffice (S R : Type 0) : Type 0 where
   pub office : OfficeValue S
-  pub kept : MemoryEntry
+  pub kept : MemoryEntry R
 
-abbrev pub served_office : {S : Type 0} → OfficeValue S → MemoryEntry → ServedOffice S
+abbrev pub served_office : {S R : Type 0} → OfficeValue S → MemoryEntry R → ServedOffice S R
 served_office office kept = record { office = office; kept = kept }
 
 -- an office with an empty cache and no wrong codes
-abbrev pub with_none_kept : {S : Type 0} → OfficeValue S → ServedOffice S
-with_none_kept office = served_office office (record { reads = []; limit = none_wrong })
+abbrev pub with_none_kept : {S R : Type 0} → OfficeValue S → R → ServedOffice S R
+with_none_kept office recorder = served_office office (record { reads = []; limit = none_wrong; recorder = recorder })

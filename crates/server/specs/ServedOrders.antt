@@ -1,6 +1,6 @@
 -- An order that is handed over to the server: what its message asks for, the outcome, and its output in frames. The words of an order from the console have the same
 -- meaning, and it is carried out the same way.
-use Rattle.std.specs.Prelude.{◌≡◌, ◌⊎◌, ⊤, Bool, true, List, [], ◌∷◌, None, Some, bytes_eq, drop, if◌then◌else◌, length, map, option_map, take, ◌≤◌, ◌+◌, Option, ℕ}
+use Rattle.std.specs.Prelude.{◌≡◌, ◌⊎◌, ⊤, Bool, false, true, List, [], ◌∷◌, None, Some, bytes_eq, drop, if◌then◌else◌, length, map, option_map, take, ◌≤◌, ◌+◌, Option, ℕ}
 use Rattle.std.specs.Int.{from_be_bytes, w64}
 use Rattle.std.specs.List.{list_all}
 use Rattle.std.specs.Str.{is_utf8}
@@ -17,20 +17,22 @@ use Rattle.order_protocol.specs.Frames.{AreWhole, IsOver, error_output_of, outpu
 use Rattle.order_protocol.specs.Messages.{Fits, OrderMessageEntry, MessagePartEntry, encoding_of}
 use Rattle.desk.specs.Copying.{copied_text}
 use Rattle.desk.specs.Folders.{File, Folder}
-use Rattle.desk.specs.Headline.{IsDone}
+use Rattle.desk.specs.Headline.{IsDoneBy}
 use Rattle.desk.specs.Journals.{IsJournalTold}
 use Rattle.desk.specs.Mends.{IsMendPage}
 use Rattle.desk.specs.Orders.{told}
 use Rattle.desk.specs.Pages.{Cut, IsShown, Outputs, Page, below, closed_page, failed, replied, words_page}
-use Rattle.desk.specs.Parts.{ComesTo}
+use Rattle.desk.specs.Parts.{ComesTo, ComesToRecorded}
+use Rattle.desk.specs.Records.{IsRecorded}
 use Rattle.desk.specs.Words.{IsNoneMeant, meaning, office_words}
 use Rattle.desk.specs.declared.lines.Failure.{Failure}
-use Rattle.desk.specs.declared.lines.Failure.TheVariants.{BeingServed, CopyFailed, FileGone, Office}
+use Rattle.desk.specs.declared.lines.Failure.TheVariants.{BeingServed, CopyFailed, FileGone, Office, SecondRecord}
 use Rattle.desk.specs.declared.orders.Job.{Job}
 use Rattle.desk.specs.declared.orders.Order.{Order}
 use Rattle.desk.specs.declared.orders.Order.TheVariants as order
 use Rattle.desk.specs.declared.orders.Task.TheVariants as task
 use Rattle.desk.specs.declared.version.TheConstants.{VERSION}
+use Rattle.server.specs.RecordChanges.{RecordChange}
 use Rattle.server.specs.Settings.{ServerSettingsEntry}
 use Rattle.server.specs.declared.served_order.ServedOrder.{ServedOrder}
 use Rattle.server.specs.declared.served_order.ServedOrder.TheVariants as asked
@@ -73,16 +75,17 @@ IsForNone (order.Slips path address) = ⊤
 IsForNone other = ⊥
 
 -- What the words of an order for the served file ask for: a job, a copy, the journal, or a new office from it. Or why it isn't carried out: the words aren't an order;
--- or the file is gone (and isn't known to be whole).
-abbrev pub AsksSo : Option Bool → List Text → ServedOrder → Type 0
-AsksSo whole words (asked.Do job) = MeansOrder words (order.Perform (task.InOffice job))
-AsksSo whole words (asked.Copy path) = MeansOrder words (order.Copy path)
-AsksSo whole words asked.Journal = MeansOrder words order.Journal
-AsksSo whole words (asked.Mend mending) = MeansOrder words (order.Mend mending)
-AsksSo whole words (asked.Refused failure) =
+-- or the file is gone (and isn't known to be whole); or the office has a second record, which failed.
+abbrev pub AsksSo : Option Bool → Bool → List Text → ServedOrder → Type 0
+AsksSo whole recorded words (asked.Do job) = MeansOrder words (order.Perform (task.InOffice job))
+AsksSo whole recorded words (asked.Copy path) = MeansOrder words (order.Copy path)
+AsksSo whole recorded words asked.Journal = MeansOrder words order.Journal
+AsksSo whole recorded words (asked.Mend mending) = MeansOrder words (order.Mend mending)
+AsksSo whole recorded words (asked.Refused failure) =
     ((failure ≡ BeingServed) × ((o : Order) × MeansOrder words o × IsForNone o))
-    ⊎ ((failure ≡ FileGone) × ((job : Job) × MeansOrder words (order.Perform (task.InOffice job))) × (whole ≡ Some true → ⊥))
-AsksSo whole words (asked.Misread fault) = IsNoneMeant (meaning (subcommand_of office_words words)) fault
+    ⊎ (((failure ≡ FileGone) × ((job : Job) × MeansOrder words (order.Perform (task.InOffice job))) × (whole ≡ Some true → ⊥))
+    ⊎ ((failure ≡ SecondRecord) × ((job : Job) × MeansOrder words (order.Perform (task.InOffice job))) × (recorded ≡ true)))
+AsksSo whole recorded words (asked.Misread fault) = IsNoneMeant (meaning (subcommand_of office_words words)) fault
 
 -- No order is decoded: an allocation failed; or the bytes aren't a message of text, or the message is from another version of the program or for another file.
 abbrev pub IsUnread : FileNumbers → List ℕ → ServedOrder → Type 0
@@ -93,7 +96,7 @@ IsUnread file got what =
 -- what the given bytes ask for, given the files sent with the order
 abbrev pub AsksOrder : ServerSettingsEntry → List ℕ → List MessagePartEntry → ServedOrder → Type 0
 AsksOrder settings got files what =
-    ((h : OrderMessageEntry) × IsMessage got h × IsForFile settings.file h × (files ≡ h.files) × AsksSo settings.whole (words_in h) what) ⊎ (IsUnread settings.file got what × (files ≡ []))
+    ((h : OrderMessageEntry) × IsMessage got h × IsForFile settings.file h × (files ≡ h.files) × AsksSo settings.whole settings.recorded (words_in h) what) ⊎ (IsUnread settings.file got what × (files ≡ []))
 
 -- ---- the files
 
@@ -133,15 +136,23 @@ IsCopyTold s page =
     (page ≡ replied (copied_text (holdings_of s)))
     ⊎ ((page ≡ below (replied (copied_text (holdings_of s))) (failed CopyFailed)) ⊎ ((failure : Failure) × (page ≡ failed failure)))
 
--- The outcome of what is requested in a given state, and what it leaves of the office, whose connection was in the state `old`. A job is carried out in the office. For
--- a copy, the journal, or a new office from it, the office is only read. An order that isn't carried out leaves it unchanged.
-abbrev pub IsOrderOutcome : State → Bool → State → Folder → OfficeState → ServedOrder → Cut → Page → Type 0
-IsOrderOutcome old closed st folder s (asked.Do job) cut page = ComesTo cut page (IsDone old closed st folder s job)
-IsOrderOutcome old closed st folder s (asked.Copy path) cut page = IsCopyTold s page × IsReadAt s closed st
-IsOrderOutcome old closed st folder s asked.Journal cut page = IsJournalTold s page × IsReadAt s closed st
-IsOrderOutcome old closed st folder s (asked.Mend mending) cut page = IsMendPage s mending page × IsReadAt s closed st
-IsOrderOutcome old closed st folder s (asked.Refused failure) cut page = (page ≡ failed failure) × IsOpenAt s closed st
-IsOrderOutcome old closed st folder s (asked.Misread fault) cut page = (page ≡ words_page fault) × IsOpenAt s closed st
+-- a job is done only if the record hasn't failed
+abbrev pub BeginsUnfailed : Bool → ServedOrder → Type 0
+BeginsUnfailed failed (asked.Do job) = failed ≡ false
+BeginsUnfailed failed other = ⊤
+
+-- The outcome of what is requested in a given state, and what it leaves of the office, whose connection was in the state `old`, and of its record. A job is carried out in
+-- the office, and each request of it that the office accepts is recorded before it is acknowledged. For a copy, the journal, or a new office from it, the office is only
+-- read. An order that isn't carried out leaves it unchanged.
+abbrev pub IsOrderOutcome : RecordChange → State → Bool → State → Folder → OfficeState → ServedOrder → Cut → Page → Type 0
+IsOrderOutcome change old closed st folder s (asked.Do job) cut page =
+    ComesToRecorded cut page (λ requests answered. change.had_failed ≡ false → IsRecorded s requests answered change.old change.new change.has_failed)
+    (IsDoneBy change.has_failed old closed st folder s job)
+IsOrderOutcome change old closed st folder s (asked.Copy path) cut page = IsCopyTold s page × IsReadAt s closed st × change.same
+IsOrderOutcome change old closed st folder s asked.Journal cut page = IsJournalTold s page × IsReadAt s closed st × change.same
+IsOrderOutcome change old closed st folder s (asked.Mend mending) cut page = IsMendPage s mending page × IsReadAt s closed st × change.same
+IsOrderOutcome change old closed st folder s (asked.Refused failure) cut page = (page ≡ failed failure) × IsOpenAt s closed st × change.same
+IsOrderOutcome change old closed st folder s (asked.Misread fault) cut page = (page ≡ words_page fault) × IsOpenAt s closed st × change.same
 
 -- the page that a closed office prints: it says that the office is closed, if the order would be carried out otherwise; or else why the order isn't carried out
 abbrev pub closed_office_page : ServedOrder → Page
@@ -153,26 +164,29 @@ closed_office_page (asked.Refused failure) = failed failure
 closed_office_page (asked.Misread fault) = words_page fault
 
 -- The request, with the given files, was carried out, and the given part of its page was sent in the given way. If the office was open, the page is the outcome, as far
--- as the outputs accepted it, together with the state that the request left. If the office was closed, the page says so.
-pub record Follows {S : Type 0} (state_of : Held S → State) (old : OfficeValue S) (files : List MessagePartEntry) (asked : ServedOrder) (IsSent : Cut → Page → Type 0) (new : OfficeValue S)
-    : Type 0 where
+-- as the outputs accepted it, together with the state that the request left, and what became of the record. If the office was closed, the page says so.
+pub record Follows {S : Type 0} (state_of : Held S → State) (change : RecordChange) (old : OfficeValue S) (files : List MessagePartEntry) (asked : ServedOrder) (IsSent : Cut → Page → Type 0)
+    (new : OfficeValue S) : Type 0 where
   pub cut : Cut
   pub page : Page
   pub told : IsSent cut page
-  pub does : WhenOpenAt state_of old new (λ s. IsOrderOutcome (state_of old.held) new.closed (state_of new.held) (folder_of files) s asked cut page)
-  pub turned_away : old.closed ≡ true → (page ≡ closed_office_page asked) × (new ≡ old)
+  pub does : WhenOpenAt state_of old new (λ s. IsOrderOutcome change (state_of old.held) new.closed (state_of new.held) (folder_of files) s asked cut page)
+  pub turned_away : old.closed ≡ true → (page ≡ closed_office_page asked) × (new ≡ old) × change.same
   pub clean : HasCleanDisk (state_of new.held) → HasCleanDisk (state_of old.held)
 
 -- the request was carried out, and the given frames are the response
-abbrev pub IsResponseToOrder : {S : Type 0} → (Held S → State) → OfficeValue S → List MessagePartEntry → ServedOrder → List ℕ → OfficeValue S → Type 0
-IsResponseToOrder state_of old files asked frames new = Follows state_of old files asked (λ cut page. IsFramed cut page frames) new
+abbrev pub IsResponseToOrder : {S : Type 0} → (Held S → State) → RecordChange → OfficeValue S → List MessagePartEntry → ServedOrder → List ℕ → OfficeValue S → Type 0
+IsResponseToOrder state_of change old files asked frames new = Follows state_of change old files asked (λ cut page. IsFramed cut page frames) new
 
 -- the order that the given bytes contain was processed, and the given frames are the response
-pub record FollowsOrder {S : Type 0} (settings : ServerSettingsEntry) (state_of : Held S → State) (old : OfficeValue S) (got frames : List ℕ) (new : OfficeValue S) : Type 0 where
+pub record FollowsOrder {S : Type 0} (settings : ServerSettingsEntry) (state_of : Held S → State) (change : RecordChange) (old : OfficeValue S) (got frames : List ℕ) (new : OfficeValue S)
+    : Type 0 where
   pub files : List MessagePartEntry
   pub asked : ServedOrder
   pub is : AsksOrder settings got files asked
-  pub tells : IsResponseToOrder state_of old files asked frames new
+  pub begins : BeginsUnfailed change.had_failed asked
+  pub fails : change.had_failed ≡ false → change.has_failed ≡ true → settings.recorded ≡ true
+  pub tells : IsResponseToOrder state_of change old files asked frames new
 
 -- ---- the output in a given state
 
@@ -182,15 +196,15 @@ AreAnswered requests answered sent last = (sent ≡ take answered requests) × (
 
 -- The page of what is requested in a given state, where the given requests were answered, and possibly another one was sent. A job prints it in an office that was open
 -- in that state, over some connection, whose failure may be the cause of a reported fault.
-abbrev pub PrintsAt : {S : Type 0} → (Held S → State) → Folder → OfficeState → ServedOrder → Cut → Page → List Request → List Request → Type 0
-PrintsAt {S} state_of folder s (asked.Do job) cut page sent last =
+abbrev pub PrintsAt : {S : Type 0} → (Held S → State) → Bool → Folder → OfficeState → ServedOrder → Cut → Page → List Request → List Request → Type 0
+PrintsAt {S} state_of recorded folder s (asked.Do job) cut page sent last =
     (old new : OfficeValue S)
-    × ComesTo cut page (λ course. IsDone (state_of old.held) new.closed (state_of new.held) folder s job course × AreAnswered course.requests course.answered sent last)
-PrintsAt state_of folder s (asked.Copy path) cut page sent last = IsCopyTold s page × (sent ≡ []) × (last ≡ [])
-PrintsAt state_of folder s asked.Journal cut page sent last = IsJournalTold s page × (sent ≡ []) × (last ≡ [])
-PrintsAt state_of folder s (asked.Mend mending) cut page sent last = IsMendPage s mending page × (sent ≡ []) × (last ≡ [])
-PrintsAt state_of folder s (asked.Refused failure) cut page sent last = (page ≡ failed failure) × (sent ≡ []) × (last ≡ [])
-PrintsAt state_of folder s (asked.Misread fault) cut page sent last = (page ≡ words_page fault) × (sent ≡ []) × (last ≡ [])
+    × ComesTo cut page (λ course. IsDoneBy recorded (state_of old.held) new.closed (state_of new.held) folder s job course × AreAnswered course.requests course.answered sent last)
+PrintsAt state_of recorded folder s (asked.Copy path) cut page sent last = IsCopyTold s page × (sent ≡ []) × (last ≡ [])
+PrintsAt state_of recorded folder s asked.Journal cut page sent last = IsJournalTold s page × (sent ≡ []) × (last ≡ [])
+PrintsAt state_of recorded folder s (asked.Mend mending) cut page sent last = IsMendPage s mending page × (sent ≡ []) × (last ≡ [])
+PrintsAt state_of recorded folder s (asked.Refused failure) cut page sent last = (page ≡ failed failure) × (sent ≡ []) × (last ≡ [])
+PrintsAt state_of recorded folder s (asked.Misread fault) cut page sent last = (page ≡ words_page fault) × (sent ≡ []) × (last ≡ [])
 
 -- the order that the given bytes contain printed its page in a given state, in the given frames
 pub record OrderPrints {S : Type 0} (state_of : Held S → State) (settings : ServerSettingsEntry) (s : OfficeState) (got frames : List ℕ) (sent last : List Request) : Type 0 where
@@ -200,7 +214,7 @@ pub record OrderPrints {S : Type 0} (state_of : Held S → State) (settings : Se
   pub cut : Cut
   pub page : Page
   pub told : IsFramed cut page frames
-  pub tells : PrintsAt state_of (folder_of files) s asked cut page sent last
+  pub tells : PrintsAt state_of settings.recorded (folder_of files) s asked cut page sent last
 
 -- the order that the given bytes contain found the office closed, and the frames say so
 pub record IsRefusedClosed (settings : ServerSettingsEntry) (got frames : List ℕ) : Type 0 where

@@ -24,13 +24,15 @@ use Rattle.connections.specs.declared.client.Accepted.{Accepted}
 use Rattle.connections.specs.declared.removed.Removed.{Removed}
 use Rattle.connections.specs.declared.removed.CloseReason.{CloseReason}
 use Rattle.connections.specs.declared.connection_table.ConnectionTable.{ConnectionTable}
+use Rattle.desk.specs.declared.record.NoRecord.{NoRecord}
 use Rattle.server.specs.ServedConnections.{AreOpen, ServedConnection, WasClosed, AllHadExchanges}
 use Rattle.server.specs.declared.serve_error.ServeError.{ServeError}
 use Rattle.server.specs.declared.serve_error.ServeError.TheVariants as ended
 use Rattle.server.specs.Reads.{ServedOffice, MemoryEntry, served_office, with_none_kept}
+use Rattle.server.specs.RecordChanges.{ServedView, served_view}
 use Rattle.server.specs.Settings.{ServerSettingsEntry}
 use Rattle.server.specs.Servicing.{response_at}
-use Rattle.server.specs.Exchanges.{KeepsExchanges, ServesExchange, Exchange}
+use Rattle.server.specs.Exchanges.{KeepsExchanges, KeepsInRecord, ServesExchange, Exchange}
 
 -- the given connections were accepted
 abbrev pub AcceptsMore : {L : Type 0} → Option (List (Accepted L)) → Option (List (Accepted L)) → List (Accepted L) → Type 0
@@ -53,17 +55,17 @@ pub record GoesOn {L : Type 0} (settings : ServerSettingsEntry) (stream : Stream
       × AreOpen settings stream all (earlier ++ exchanges) (left ++ gone) new.came new.clients.items
 
 -- the same, along with the office that serves the exchanges
-pub record GoesOnServing {L S : Type 0} (settings : ServerSettingsEntry) (stream : Stream L) (state_of : Held S → State) (before later : NetworkEntry L) (old new : ConnectionTable L)
-    (at behind : ServedOffice S) : Type 0 where
+pub record GoesOnServing {L S R : Type 0} (settings : ServerSettingsEntry) (stream : Stream L) (view : ServedView S R) (before later : NetworkEntry L) (old new : ConnectionTable L)
+    (at behind : ServedOffice S R) : Type 0 where
   pub exchanges : List Exchange
-  pub each : FoldsTo (ServesExchange settings state_of) at exchanges behind
+  pub each : FoldsTo (ServesExchange settings view) at exchanges behind
   pub goes_on : GoesOn settings stream exchanges before later old new
 
 -- The same, starting from any last reading of the clock. Step by step, the given responses were produced, and connections were accepted and closed.
-abbrev pub ServesFrom : {L S : Type 0} → ServerSettingsEntry → Stream L → (Held S → State) → NetworkEntry L → NetworkEntry L → ConnectionTable L → ConnectionTable L → ServedOffice S
-    → ServedOffice S → Type 0
-ServesFrom settings stream state_of before later old new at behind =
-    (from : Option ℕ) → (to : Option ℕ) × (it : GoesOnServing settings stream state_of before later old new at behind)
+abbrev pub ServesFrom : {L S R : Type 0} → ServerSettingsEntry → Stream L → ServedView S R → NetworkEntry L → NetworkEntry L → ConnectionTable L → ConnectionTable L → ServedOffice S R
+    → ServedOffice S R → Type 0
+ServesFrom settings stream view before later old new at behind =
+    (from : Option ℕ) → (to : Option ℕ) × (it : GoesOnServing settings stream view before later old new at behind)
     × Trace (is_some settings.clients.gate) stream (map response_at it.exchanges) from to before later old.clients.items new.clients.items
 
 -- the connection at a place has the given number
@@ -134,10 +136,10 @@ IsEndedBy before later (Err ended.Rounds) = (later.failed ≡ before.failed) × 
 
 -- Connections from clients and for orders were accepted: no more clients than requested, and exactly as many if serving ended without a failure. What happened to each
 -- connection is as specified, and each was handed back, exactly once, with its stream in its final state. Their requests were processed one at a time, each in the
--- office that the previous ones left. At first the cache was empty, and no wrong code had been sent. What is kept of the requests is as specified, too. Serving doesn't
--- end because a new office took the place of a file that is permanently known to be whole.
-pub record ServesConnections {L S : Type 0} (settings : ServerSettingsEntry) (stream : Stream L) (state_of : Held S → State) (before later : NetworkEntry L) (most : Option ℕ)
-    (old new : OfficeValue S) (result : Result (Unit {0}) ServeError) : Type 0 where
+-- office that the previous ones left. At first the cache was empty, and no wrong code had been sent. What is kept of the requests, in the office and in its second record, is as specified, too.
+-- Serving doesn't end because a new office took the place of a file that is permanently known to be whole.
+pub record ServesRecorded {L S R : Type 0} (settings : ServerSettingsEntry) (stream : Stream L) (view : ServedView S R) (before later : NetworkEntry L) (most : Option ℕ)
+    (old new : OfficeValue S) (recorder : R) (result : Result (Unit {0}) ServeError) (recorder_later : R) : Type 0 where
   pub all_connections : List (ServedConnection L)
   pub exchanges : List Exchange
   pub gone : List (Removed L)
@@ -150,7 +152,21 @@ pub record ServesConnections {L S : Type 0} (settings : ServerSettingsEntry) (st
   pub once : length gone ≡ length all_connections
   pub closes : ClosesConnections (is_some settings.clients.gate) stream (map response_at exchanges) before later result
   pub moved : OnMoved result (settings.whole ≢ Some true)
-  pub kept : MemoryEntry
-  pub each : FoldsTo (ServesExchange settings state_of) (with_none_kept old) exchanges (served_office new kept)
-  pub keeps : HasCleanDisk (state_of new.held) → old.closed ≡ false → (earlier : List Request) → IsAt (after empty_office earlier) (state_of old.held)
-      → KeepsExchanges state_of settings earlier exchanges new.closed (state_of new.held)
+  pub kept : MemoryEntry R
+  pub each : FoldsTo (ServesExchange settings view) (with_none_kept old recorder) exchanges (served_office new kept)
+  pub kept_recorder : kept.recorder ≡ recorder_later
+  pub keeps : HasCleanDisk (view.state_of new.held) → old.closed ≡ false → (earlier : List Request) → IsAt (after empty_office earlier) (view.state_of old.held)
+      → KeepsExchanges view.state_of settings earlier exchanges new.closed (view.state_of new.held)
+  pub recorded : (clean : HasCleanDisk (view.state_of new.held)) → (is_open : old.closed ≡ false) → (earlier : List Request) → (at : IsAt (after empty_office earlier) (view.state_of old.held))
+      → KeepsInRecord (view.found recorder) (view.found recorder_later) earlier ((keeps clean is_open earlier at).answered ++ (keeps clean is_open earlier at).last)
+      (length (keeps clean is_open earlier at).answered)
+
+-- an office that is served without a second record
+abbrev pub view_without_record : {S : Type 0} → (Held S → State) → ServedView S NoRecord
+view_without_record state_of = served_view state_of (λ recorder text. ⊥) (λ recorder. false)
+
+-- the same without a second record
+abbrev pub ServesConnections : {L S : Type 0} → ServerSettingsEntry → Stream L → (Held S → State) → NetworkEntry L → NetworkEntry L → Option ℕ → OfficeValue S → OfficeValue S
+    → Result (Unit {0}) ServeError → Type 0
+ServesConnections settings stream state_of before later most old new result =
+    ServesRecorded settings stream (view_without_record state_of) before later most old new (record {}) result (record {})

@@ -1,8 +1,6 @@
 -- How a connection is serviced, and how its request is processed.
 use Rattle.std.specs.Prelude.{◌≡◌, ◌≢◌, ◌⊎◌, ⊤, Bool, true, false, List, [], ◌∷◌, None, Option, Some, Result, Ok, Err, map, option_map, ℕ}
 use Rattle.std.specs.Io.KnownBytes.{IsAtEnd}
-use Rattle.sqlite.specs.Held.{Held}
-use Rattle.sqlite.specs.State.{State}
 use Rattle.streams.specs.declared.streams.Broken.{Broken}
 use Rattle.connections.specs.Traces.{IsServiceOutcome, IsMomentOf, ResponseAt, with_gate}
 use Rattle.connections.specs.Streams.{Receives, HasTaken, Stream}
@@ -20,6 +18,7 @@ use Rattle.server.specs.declared.servicing.Serviced.{Serviced}
 use Rattle.server.specs.declared.servicing.Serviced.TheVariants.{Waits, Served, Leaves}
 use Rattle.server.specs.ServedOrders.{IsWholeMessage}
 use Rattle.server.specs.Reads.{ServedOffice}
+use Rattle.server.specs.RecordChanges.{ServedView}
 use Rattle.server.specs.Settings.{ServerSettingsEntry}
 use Rattle.server.specs.Exchanges.{ServesExchange, Exchange}
 
@@ -50,7 +49,7 @@ IsSameClient old new = (new.listener ≡ old.listener) × (new.number ≡ old.nu
 
 -- The request of a connection was processed while the connection was serviced at a given time. Its own bytes were received until the request was complete, the request
 -- in exactly those bytes was processed, and the connection has the resulting response.
-pub record HasResponded {L S : Type 0} (settings : ServerSettingsEntry) (stream : Stream L) (state_of : Held S → State) (now : ℕ) (old new : Client L) (before later : ServedOffice S) : Type 0 where
+pub record HasResponded {L S R : Type 0} (settings : ServerSettingsEntry) (stream : Stream L) (view : ServedView S R) (now : ℕ) (old new : Client L) (before later : ServedOffice S R) : Type 0 where
   pub exchange : Exchange
   pub listener : exchange.listener ≡ old.listener
   pub number : exchange.number ≡ old.number
@@ -59,25 +58,25 @@ pub record HasResponded {L S : Type 0} (settings : ServerSettingsEntry) (stream 
   pub received : L
   pub own : Receives stream old.stream received old.got.items exchange.got
   pub come : HasComeAt old.listener settings (stream.held received) exchange.got
-  pub served : ServesExchange settings state_of before exchange later
+  pub served : ServesExchange settings view before exchange later
   pub belongs : answer_of new ≡ Some exchange.answer
 
 -- the exchanges of a connection while it was serviced at a given time: one if its request was processed, otherwise none
-abbrev pub HasExchanges : {L S : Type 0} → ServerSettingsEntry → Stream L → (Held S → State) → ℕ → List Exchange → Client L → Client L → ServedOffice S → ServedOffice S → Type 0
-HasExchanges settings stream state_of now [] old new before later = (later ≡ before) × (answer_of new ≡ answer_of old)
-HasExchanges settings stream state_of now (exchange ∷ []) old new before later = (turn : HasResponded settings stream state_of now old new before later) × (turn.exchange ≡ exchange)
-HasExchanges settings stream state_of now (exchange ∷ other ∷ more) old new before later = ⊥
+abbrev pub HasExchanges : {L S R : Type 0} → ServerSettingsEntry → Stream L → ServedView S R → ℕ → List Exchange → Client L → Client L → ServedOffice S R → ServedOffice S R → Type 0
+HasExchanges settings stream view now [] old new before later = (later ≡ before) × (answer_of new ≡ answer_of old)
+HasExchanges settings stream view now (exchange ∷ []) old new before later = (turn : HasResponded settings stream view now old new before later) × (turn.exchange ≡ exchange)
+HasExchanges settings stream view now (exchange ∷ other ∷ more) old new before later = ⊥
 
 -- the connection's request was processed; or the office, the server's memory and the response are unchanged
-abbrev pub MayHaveResponded : {L S : Type 0} → ServerSettingsEntry → Stream L → (Held S → State) → ℕ → Client L → Client L → ServedOffice S → ServedOffice S → Type 0
-MayHaveResponded settings stream state_of now old new before later = HasResponded settings stream state_of now old new before later ⊎ ((later ≡ before) × (answer_of new ≡ answer_of old))
+abbrev pub MayHaveResponded : {L S R : Type 0} → ServerSettingsEntry → Stream L → ServedView S R → ℕ → Client L → Client L → ServedOffice S R → ServedOffice S R → Type 0
+MayHaveResponded settings stream view now old new before later = HasResponded settings stream view now old new before later ⊎ ((later ≡ before) × (answer_of new ≡ answer_of old))
 
 -- The outcome of servicing a connection. It waits, and its request hasn't been processed; or its request has just been processed; or, in either case, the connection
 -- should be closed.
-abbrev pub Services : {L S : Type 0} → ServerSettingsEntry → Stream L → (Held S → State) → ℕ → Serviced → Client L → Client L → ServedOffice S → ServedOffice S → Type 0
-Services settings stream state_of now Waits old new before later = (later ≡ before) × (answer_of new ≡ answer_of old)
-Services settings stream state_of now Served old new before later = HasResponded settings stream state_of now old new before later
-Services settings stream state_of now (Leaves why) old new before later = MayHaveResponded settings stream state_of now old new before later
+abbrev pub Services : {L S R : Type 0} → ServerSettingsEntry → Stream L → ServedView S R → ℕ → Serviced → Client L → Client L → ServedOffice S R → ServedOffice S R → Type 0
+Services settings stream view now Waits old new before later = (later ≡ before) × (answer_of new ≡ answer_of old)
+Services settings stream view now Served old new before later = HasResponded settings stream view now old new before later
+Services settings stream view now (Leaves why) old new before later = MayHaveResponded settings stream view now old new before later
 
 -- a connection from which nothing more can be received is broken or unreadable
 abbrev pub FailsOnlyAsLost : {A : Type 0} → Result A CloseReason → Type 0
@@ -106,11 +105,11 @@ LooksAtGate false result before later = (result ≡ Ok 0) × (later ≡ before)
 
 -- An open connection that the network reported as ready was serviced, with the given outcome. Either its request was processed, at the time read from the clock, or it
 -- wasn't processed.
-pub record WasServiced {L S : Type 0} (gated : Bool) (settings : ServerSettingsEntry) (stream : Stream L) (state_of : Held S → State) (result : Result (Option CloseReason) Broken)
+pub record WasServiced {L S R : Type 0} (gated : Bool) (settings : ServerSettingsEntry) (stream : Stream L) (view : ServedView S R) (result : Result (Option CloseReason) Broken)
     (before later : NetworkEntry L)
-    (old new : Client L) (at behind : ServedOffice S) : Type 0 where
+    (old new : Client L) (at behind : ServedOffice S R) : Type 0 where
   pub gate : Option ℕ
   pub exchanges : List Exchange
-  pub had : HasExchanges settings stream state_of (moment_of gate) exchanges old new at behind
+  pub had : HasExchanges settings stream view (moment_of gate) exchanges old new at behind
   pub at_gate : IsAtGate gated gate exchanges
   pub comes : IsServiceOutcome stream (map response_at exchanges) old new result (with_gate gate before) later

@@ -2,9 +2,11 @@
 
 ghost use Rattle.sqlite.specs.Held.{state};
 ghost use Rattle.connections.specs.Streams.{stream_of};
-ghost use Rattle.server.specs.Blind.{ClerksAreAnsweredAsSeen, ClerksAskNoOrder, ClerksCannotTell, ServersAnswerAsSeen, KeptAreAnsweredAsSeen};
+ghost use Rattle.server.specs.Blind.{ClerksAreAnsweredAsSeen, ClerksAskNoOrder, ClerksCannotTell, RecordedServersAnswerAsSeen, ServersAnswerAsSeen, KeptAreAnsweredAsSeen};
+ghost use Rattle.server.specs.RecordChanges.{served_view};
 
 use connections::Network;
+use desk::Recorder;
 use laws::clerks_are_blind;
 use register::lists_make_states;
 use sqlite::Alter;
@@ -33,6 +35,15 @@ pub fn clerks_are_answered_as_seen<S: Alter>()
 /// open and in the state after any earlier requests, what each clerk sees of that state determines the responses to that clerk.
 pub fn servers_answer_as_seen<D: Network, S: Alter>()
     ensures { ServersAnswerAsSeen (stream_of D.Stream.held D.Stream.taken D.Stream.failed) (state S.Store) }
+{
+    // called for its law
+    clerks_are_answered_as_seen::<S>();
+}
+
+/// The same law for a server whose office has a second record. The responses saying that the record failed (112) aren't covered
+/// either.
+pub fn recorded_servers_answer_as_seen<D: Network, S: Alter, R: Recorder>()
+    ensures { RecordedServersAnswerAsSeen (stream_of D.Stream.held D.Stream.taken D.Stream.failed) (served_view (state S.Store) R.found R.failed) }
 {
     // called for its law
     clerks_are_answered_as_seen::<S>();

@@ -1,21 +1,22 @@
 //! The response to an order from the console. The order is processed in the open office, just like an order that is handed
 //! over, and its output is returned in one response.
 
-ghost use Rattle.std.specs.Prelude.{◌≡◌, [], IfOk, map, string_bytes};
+ghost use Rattle.std.specs.Prelude.{◌≡◌, [], IfOk, false, map, string_bytes, true};
 ghost use Rattle.sqlite.specs.Held.{state};
 ghost use Rattle.order_protocol.specs.Messages.{message_part_entries};
 ghost use Rattle.wire.specs.ConsoleOrders.{console_file_entry, console_order_entry};
 ghost use Rattle.wire.specs.Told.{IsTold};
-ghost use Rattle.server.specs.Settings.{settings_in};
+ghost use Rattle.server.specs.RecordChanges.{change_of};
+ghost use Rattle.server.specs.Settings.{settings_by};
 ghost use Rattle.server.specs.ServedOrders.{Follows};
 ghost use Rattle.server.specs.ConsoleOrders.{FollowsEntry, HasPrinted, printed_response, sent_file, typed_words};
 
-use crate::order_response::{AttachedFiles, OrderContext, do_asked, unless_gone};
+use crate::order_response::{AttachedFiles, OrderContext, do_asked, order_or_reason};
 use crate::served_file::ServedFile;
-use crate::served_order::{ServedOrder, served_order_by};
+use crate::served_order::ServedOrder;
 use crate::server_settings::ServerSettings;
 use connections::VecSink;
-use desk::Failure;
+use desk::{Failure, Recorder};
 use office::Office;
 use order_protocol::MessagePart;
 use sqlite::Alter;
@@ -80,27 +81,35 @@ fn printed_response(alloc: Global, status: u8, out: &[u8], err: &[u8]) -> Respon
 }
 
 /// Carries out an order, and returns the response with its output.
-fn follow_asked<A: ServedFile, S: Alter>(
+fn follow_asked<A: ServedFile, S: Alter, R: Recorder>(
     order: &OrderContext<'_, A>,
     office: &mut Office<S>,
+    recorder: &mut R,
 ) -> Response
-    ensures { Follows (state S.Store) office.old (message_part_entries order.now.attached.files.now) order.now.asked.now (λ cut page. HasPrinted cut page result) office.new }
+    ensures followed { Follows (state S.Store) (change_of R.found R.failed recorder.old recorder.new) office.old (message_part_entries order.now.attached.files.now) order.now.asked.now
+        (λ cut page. HasPrinted cut page result) office.new }
+    ensures same { R.records recorder.new ≡ R.records recorder.old }
+    ensures fails { R.failed recorder.old ≡ false → R.failed recorder.new ≡ true → R.records recorder.old ≡ true }
 {
     let mut out = VecSink::new(order.alloc);
     let mut err = VecSink::new(order.alloc);
-    let status = do_asked(order, office, &mut out, &mut err);
+    let status = do_asked(order, office, recorder, &mut out, &mut err);
     let output = out.into_bytes();
     let errors = err.into_bytes();
     printed_response(order.alloc, status, output.as_slice(), errors.as_slice())
 }
 
 /// Returns the response to an order that isn't carried out because an allocation failed.
-fn reject_out_of_memory<A: ServedFile, S: Alter>(
+fn reject_out_of_memory<A: ServedFile, S: Alter, R: Recorder>(
     alloc: Global,
     served_file: &A,
     office: &mut Office<S>,
+    recorder: &mut R,
 ) -> Response
-    ensures { Follows (state S.Store) office.old [] (ServedOrder.Refused (Failure.Office Fault.Memory)) (λ cut page. HasPrinted cut page result) office.new }
+    ensures followed { Follows (state S.Store) (change_of R.found R.failed recorder.old recorder.new) office.old [] (ServedOrder.Refused (Failure.Office Fault.Memory))
+        (λ cut page. HasPrinted cut page result) office.new }
+    ensures same { R.records recorder.new ≡ R.records recorder.old }
+    ensures fails { R.failed recorder.old ≡ false → R.failed recorder.new ≡ true → R.records recorder.old ≡ true }
 {
     let order = OrderContext {
         alloc,
@@ -111,7 +120,7 @@ fn reject_out_of_memory<A: ServedFile, S: Alter>(
             files: &[],
         },
     };
-    follow_asked(&order, office)
+    follow_asked(&order, office, recorder)
 }
 
 /// Processes an order from the console in the office, and returns the response with both its output and its error output. A
@@ -119,31 +128,32 @@ fn reject_out_of_memory<A: ServedFile, S: Alter>(
 ///
 /// The files that the order names are those sent with it, and no others. A copy or a new office is made only at a bare name,
 /// without a folder. The orders `init`, `migrate`, `serve`, `codes` and `forms slips` aren't carried out, because the office is
-/// being served (111).
-pub fn answer_console<A: ServedFile, S: Alter>(
+/// being served (111). If the record has failed, no job is carried out (112).
+pub fn answer_console<A: ServedFile, S: Alter, R: Recorder>(
     alloc: Global,
     server_settings: ServerSettings<'_, A>,
     order: &ConsoleOrder,
     office: &mut Office<S>,
+    recorder: &mut R,
 ) -> Response
-    ensures { FollowsEntry (settings_in A.whole server_settings.entry) (state S.Store) office.old (console_order_entry order.now) (λ cut page. HasPrinted cut page result) office.new }
+    ensures followed { FollowsEntry (settings_by A.whole (R.records recorder.old) server_settings.entry) (state S.Store) (change_of R.found R.failed recorder.old recorder.new) office.old
+        (console_order_entry order.now) (λ cut page. HasPrinted cut page result) office.new }
+    ensures same { R.records recorder.new ≡ R.records recorder.old }
 {
+    let served_file = server_settings.served_file;
     let read = match read_order(alloc, order) {
         Ok(read) => read,
-        Err(AllocError) => return reject_out_of_memory(alloc, server_settings.served_file, office),
+        Err(AllocError) => return reject_out_of_memory(alloc, served_file, office, recorder),
     };
-    let asked = unless_gone(
-        served_order_by(alloc, &read.words),
-        server_settings.served_file,
-    );
+    let asked = order_or_reason(alloc, &read.words, served_file, recorder);
     let handing = OrderContext {
         alloc,
-        served_file: server_settings.served_file,
+        served_file,
         asked: &asked,
         attached: AttachedFiles {
             folder: None,
             files: &read.files,
         },
     };
-    follow_asked(&handing, office)
+    follow_asked(&handing, office, recorder)
 }

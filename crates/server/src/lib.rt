@@ -7,9 +7,12 @@
 //! stream of another, and the office does one thing at a time.
 //!
 //! A keying passes from [`serve_connections`] to the office through `serve_rounds`, `service_ready`, `service_one`,
-//! [`service`], `answer_client`, `answer_request` and [`wire::answer_keying`]. `end_round` does the rest of a round. An order
-//! from the console takes the same path; `answer_console` then carries it out like an order that is handed over, and its output
-//! is returned in one response.
+//! [`service`], `answer_client`, `answer_request`, `answer_clerk` and [`wire::handle_keying`]. `end_round` does the rest of a
+//! round. An order from the console takes the same path; `answer_console` then carries it out like an order that is handed over,
+//! and its output is returned in one response.
+//!
+//! [`serve_recorded`] also records each request that the office accepts, before it is acknowledged, through a
+//! [`Recorder`](desk::Recorder). `specs/RecordChanges.antt` defines what is known of the record.
 //!
 //! Whenever more of a client's request has arrived, [`wire::parse`] parses its head, using routes that are built once. From the
 //! result the server knows whether the request is complete, whose code it carries, whether it must wait, what it reads, and
@@ -47,9 +50,11 @@ mod serving;
 // what a clerk is sent
 mod blind;
 
-pub use blind::{clerks_are_answered_as_seen, servers_answer_as_seen};
+pub use blind::{
+    clerks_are_answered_as_seen, recorded_servers_answer_as_seen, servers_answer_as_seen,
+};
 pub use serve_error::ServeError;
 pub use served_file::{Destination, ServedFile};
 pub use server_settings::{FileNumbers, ServerSettings};
 pub use servicing::{Serviced, service};
-pub use serving::serve_connections;
+pub use serving::{serve_connections, serve_recorded};

@@ -1,7 +1,7 @@
 //! The response to an order that is handed over. The order is processed in the open office, and its output is sent in frames.
 //! `console_order` uses the same code to process an order.
 
-ghost use Rattle.std.specs.Prelude.{◌≡◌, ⊤, ◌-◌, ◌^◌, ◌<◌, ℕ, IfNone, IfSome, List, [], false, option_map, true};
+ghost use Rattle.std.specs.Prelude.{◌≡◌, ⊤, ◌-◌, ◌^◌, ◌<◌, ℕ, Bool, IfNone, IfSome, List, Option, [], false, map, option_map, true};
 ghost use Rattle.clap.specs.Words.{Text};
 ghost use Rattle.sqlite.specs.State.{HasCleanDisk};
 ghost use Rattle.sqlite.specs.Held.{state};
@@ -12,8 +12,9 @@ ghost use Rattle.order_protocol.specs.Messages.{order_message_entry, message_par
 ghost use Rattle.desk.specs.Mends.{IsMendPage};
 ghost use Rattle.desk.specs.Pages.{IsErrorTold, Shows, Tells, failed, outputs_of};
 ghost use Rattle.server.specs.Destinations.{EndsWhereAsked, destination_at, destination_entry, folder_typed_in, is_bare_name};
-ghost use Rattle.server.specs.Settings.{settings_in};
-ghost use Rattle.server.specs.ServedOrders.{AsksSo, IsOrderOutcome, FollowsOrder, IsWholeMessage, IsCopyTold, IsMessage, IsResponseToOrder, folder_of, closed_office_page};
+ghost use Rattle.server.specs.RecordChanges.{change_of};
+ghost use Rattle.server.specs.Settings.{settings_by};
+ghost use Rattle.server.specs.ServedOrders.{AsksSo, BeginsUnfailed, IsOrderOutcome, FollowsOrder, IsWholeMessage, IsCopyTold, IsMessage, IsResponseToOrder, folder_of, closed_office_page};
 
 use crate::frame_sink::FrameSink;
 use crate::order_arrival::LENGTH;
@@ -21,7 +22,7 @@ use crate::served_file::{Destination, ServedFile};
 use crate::served_order::{ServedOrder, is_for_file, read_message, served_order_by, words_of};
 use crate::server_settings::ServerSettings;
 use connections::{PendingResponse, Stream, VecSink};
-use desk::{Failure, Folder, MendOrder, follow, tell_failure, tell_words};
+use desk::{Failure, Folder, MendOrder, Recorder, follow_recorded, tell_failure, tell_words};
 use office::Office;
 use order_protocol::{MessagePart, OrderMessage};
 use sqlite::Alter;
@@ -165,10 +166,12 @@ fn mend_for_order<A: ServedFile, S: Alter, O: Sink, E: Sink>(
     }
 }
 
-/// Carries out an order in an open office, and returns the status.
-fn do_open<A: ServedFile, S: Alter, O: Sink, E: Sink>(
+/// Carries out an order in an open office, and returns the status. Each request of a job that the office accepts is recorded
+/// before it is acknowledged.
+fn do_open<A: ServedFile, S: Alter, R: Recorder, O: Sink, E: Sink>(
     order: &OrderContext<'_, A>,
     office: &mut Office<S>,
+    recorder: &mut R,
     out: &mut O,
     err: &mut E,
 ) -> u8
@@ -176,16 +179,24 @@ fn do_open<A: ServedFile, S: Alter, O: Sink, E: Sink>(
     requires err { E.failed err.old < 2 ^ 64 - 1 }
     ensures did { let outputs = outputs_of O.taken O.failed E.taken E.failed in Tells (outputs out.old err.old) (outputs out.new err.new) result
         (λ cut page. WhenOpenAt (state S.Store) office.old office.new
-        (λ s. IsOrderOutcome (state S.Store office.old.held) office.new.closed (state S.Store office.new.held) (folder_of
+        (λ s. IsOrderOutcome (change_of R.found R.failed recorder.old recorder.new) (state S.Store office.old.held) office.new.closed (state S.Store office.new.held) (folder_of
         (message_part_entries order.now.attached.files.now)) s order.now.asked.now cut page)) }
     ensures ended { EndsWhereAsked (A.ended order.now.served_file.now) (IsErrorTold E.taken E.failed err.old err.new (failed Failure.CopyFailed).err 3 result)
         (folder_typed_in order.now.attached) order.now.asked.now result }
+    ensures same { R.records recorder.new ≡ R.records recorder.old }
+    ensures fails { R.failed recorder.old ≡ false → R.failed recorder.new ≡ true → R.records recorder.old ≡ true }
     ensures clean { HasCleanDisk (state S.Store office.new.held) → HasCleanDisk (state S.Store office.old.held) }
 {
     match order.asked {
         ServedOrder::Refused(failure) => tell_failure(*failure, err),
         ServedOrder::Misread(fault) => tell_words(fault, out, err),
-        ServedOrder::Do(job) => follow(order.alloc, office, job, &order.attached, out, err),
+        ServedOrder::Do(job) => {
+            let attached = &order.attached;
+            let status = follow_recorded(order.alloc, office, job, attached, recorder, out, err);
+            // called for its law: if the record failed, there is one
+            let _ = recorder.has_failed();
+            status
+        }
         ServedOrder::Copy(path) => copy_for_order(order, path, office, out, err),
         ServedOrder::Journal => order.served_file.journal(office, out, err),
         ServedOrder::Mend(mending) => mend_for_order(order, mending, office, out, err),
@@ -193,9 +204,10 @@ fn do_open<A: ServedFile, S: Alter, O: Sink, E: Sink>(
 }
 
 /// Carries out an order in the office, open or closed, and returns the status. A closed office only reports that it is closed.
-pub fn do_asked<A: ServedFile, S: Alter, O: Sink, E: Sink>(
+pub fn do_asked<A: ServedFile, S: Alter, R: Recorder, O: Sink, E: Sink>(
     order: &OrderContext<'_, A>,
     office: &mut Office<S>,
+    recorder: &mut R,
     out: &mut O,
     err: &mut E,
 ) -> u8
@@ -203,43 +215,50 @@ pub fn do_asked<A: ServedFile, S: Alter, O: Sink, E: Sink>(
     requires err { E.failed err.old < 2 ^ 64 - 1 }
     ensures did { let outputs = outputs_of O.taken O.failed E.taken E.failed in Tells (outputs out.old err.old) (outputs out.new err.new) result
         (λ cut page. WhenOpenAt (state S.Store) office.old office.new
-        (λ s. IsOrderOutcome (state S.Store office.old.held) office.new.closed (state S.Store office.new.held) (folder_of
+        (λ s. IsOrderOutcome (change_of R.found R.failed recorder.old recorder.new) (state S.Store office.old.held) office.new.closed (state S.Store office.new.held) (folder_of
         (message_part_entries order.now.attached.files.now)) s order.now.asked.now cut page)
         × (office.old.closed ≡ true → page ≡ closed_office_page order.now.asked.now)) }
     ensures closed { office.old.closed ≡ true → office.new ≡ office.old }
+    ensures closed_same { office.old.closed ≡ true → recorder.new ≡ recorder.old }
     ensures ended { office.old.closed ≡ false
         → EndsWhereAsked (A.ended order.now.served_file.now) (IsErrorTold E.taken E.failed err.old err.new (failed Failure.CopyFailed).err 3 result)
         (folder_typed_in order.now.attached) order.now.asked.now result }
+    ensures same { R.records recorder.new ≡ R.records recorder.old }
+    ensures fails { R.failed recorder.old ≡ false → R.failed recorder.new ≡ true → R.records recorder.old ≡ true }
     ensures clean { HasCleanDisk (state S.Store office.new.held) → HasCleanDisk (state S.Store office.old.held) }
 {
     if office.is_closed() {
         return print_closed(order.asked, out, err);
     }
-    do_open(order, office, out, err)
+    do_open(order, office, recorder, out, err)
 }
 
 /// Carries out an order, sends its output in frames on its stream, and returns the stream. What the stream doesn't accept now
 /// stays in the response, to be sent concurrently with others. If the allocation for the last frame fails, the response ends
 /// without it.
-fn respond_to_asked<L: Stream, A: ServedFile, S: Alter>(
+fn respond_to_asked<L: Stream, A: ServedFile, S: Alter, R: Recorder>(
     order: &OrderContext<'_, A>,
     stream: L,
     office: &mut Office<S>,
+    recorder: &mut R,
 ) -> (L, PendingResponse)
     requires { HasTaken (L.taken stream) [] }
     ensures told { IsSent (stream_of L.held L.taken L.failed) result.0 result.1.bytes.items result.1.sent }
-    ensures followed { IsResponseToOrder (state S.Store) office.old (message_part_entries order.now.attached.files.now) order.now.asked.now result.1.bytes.items office.new }
+    ensures followed { IsResponseToOrder (state S.Store) (change_of R.found R.failed recorder.old recorder.new) office.old (message_part_entries order.now.attached.files.now) order.now.asked.now
+        result.1.bytes.items office.new }
+    ensures same { R.records recorder.new ≡ R.records recorder.old }
+    ensures fails { R.failed recorder.old ≡ false → R.failed recorder.new ≡ true → R.records recorder.old ≡ true }
 {
     let mut out = FrameSink::new(order.alloc, stream);
     let mut err = VecSink::new(order.alloc);
-    let status = do_asked(order, office, &mut out, &mut err);
+    let status = do_asked(order, office, recorder, &mut out, &mut err);
     out.end(status, err.into_bytes().as_slice())
 }
 
 /// Returns what an order asks for. If it asks for a job and the office's file is gone or replaced, returns the reason for
 /// refusing it instead.
-pub fn unless_gone<'w, A: ServedFile>(asked: ServedOrder<'w>, served_file: &A) -> ServedOrder<'w>
-    ensures { (words : List Text) → AsksSo (A.whole served_file.now) words asked.entry → AsksSo (A.whole served_file.now) words result }
+fn unless_gone<'w, A: ServedFile>(asked: ServedOrder<'w>, served_file: &A) -> ServedOrder<'w>
+    ensures { (words : List Text) (recorded : Bool) → AsksSo (A.whole served_file.now) recorded words asked.entry → AsksSo (A.whole served_file.now) recorded words result }
 {
     match asked {
         ServedOrder::Do(job) => {
@@ -253,17 +272,53 @@ pub fn unless_gone<'w, A: ServedFile>(asked: ServedOrder<'w>, served_file: &A) -
     }
 }
 
+/// Returns what an order asks for. If it asks for a job and the record has failed, returns the reason for refusing it instead.
+fn unless_unrecorded<'w, R: Recorder>(asked: ServedOrder<'w>, recorder: &R) -> ServedOrder<'w>
+    ensures asks { (whole : Option Bool) (words : List Text) → AsksSo whole (R.records recorder.now) words asked.entry → AsksSo whole (R.records recorder.now) words result }
+    ensures begins { BeginsUnfailed (R.failed recorder.now) result }
+{
+    match asked {
+        ServedOrder::Do(job) => {
+            if recorder.has_failed() {
+                ServedOrder::Refused(Failure::SecondRecord)
+            } else {
+                ServedOrder::Do(job)
+            }
+        }
+        other => other,
+    }
+}
+
+/// Returns what the words of an order ask for. If they ask for a job, and the office's file is gone or replaced or the record has
+/// failed, returns the reason for refusing it instead.
+pub fn order_or_reason<'w, A: ServedFile, R: Recorder>(
+    alloc: Global,
+    words: &'w [&'w str],
+    served_file: &A,
+    recorder: &R,
+) -> ServedOrder<'w>
+    ensures asks { AsksSo (A.whole served_file.now) (R.records recorder.now) (map (λ word. word.now) words.entry.now) result }
+    ensures begins { BeginsUnfailed (R.failed recorder.now) result }
+{
+    let asked = unless_gone(served_order_by(alloc, words), served_file);
+    unless_unrecorded(asked, recorder)
+}
+
 /// Responds with the given fault to an order that isn't carried out.
-fn tell_refused<L: Stream, A: ServedFile, S: Alter>(
+fn tell_refused<L: Stream, A: ServedFile, S: Alter, R: Recorder>(
     alloc: Global,
     served_file: &A,
     fault: Fault,
     stream: L,
     office: &mut Office<S>,
+    recorder: &mut R,
 ) -> (L, PendingResponse)
     requires { HasTaken (L.taken stream) [] }
     ensures told { IsSent (stream_of L.held L.taken L.failed) result.0 result.1.bytes.items result.1.sent }
-    ensures followed { IsResponseToOrder (state S.Store) office.old [] (ServedOrder.Refused (Failure.Office fault)) result.1.bytes.items office.new }
+    ensures followed { IsResponseToOrder (state S.Store) (change_of R.found R.failed recorder.old recorder.new) office.old [] (ServedOrder.Refused (Failure.Office fault)) result.1.bytes.items
+        office.new }
+    ensures same { R.records recorder.new ≡ R.records recorder.old }
+    ensures fails { R.failed recorder.old ≡ false → R.failed recorder.new ≡ true → R.records recorder.old ≡ true }
 {
     let order = OrderContext {
         alloc,
@@ -274,52 +329,44 @@ fn tell_refused<L: Stream, A: ServedFile, S: Alter>(
             files: &[],
         },
     };
-    respond_to_asked(&order, stream, office)
+    respond_to_asked(&order, stream, office, recorder)
 }
 
 /// Responds to an order whose message has been decoded: carries out the order, or prints why it isn't carried out.
-fn respond_to_message<L: Stream, A: ServedFile, S: Alter>(
+fn respond_to_message<L: Stream, A: ServedFile, S: Alter, R: Recorder>(
     alloc: Global,
     server_settings: ServerSettings<'_, A>,
     message: &OrderMessage<'_>,
     stream: L,
     office: &mut Office<S>,
+    recorder: &mut R,
 ) -> (L, PendingResponse)
     requires { HasTaken (L.taken stream) [] }
     ensures told { IsSent (stream_of L.held L.taken L.failed) result.0 result.1.bytes.items result.1.sent }
     ensures followed { (got : List ℕ) → IsMessage got (order_message_entry message.now)
-        → FollowsOrder (settings_in A.whole server_settings.entry) (state S.Store) office.old got result.1.bytes.items office.new }
+        → FollowsOrder (settings_by A.whole (R.records recorder.old) server_settings.entry) (state S.Store) (change_of R.found R.failed recorder.old recorder.new) office.old got
+        result.1.bytes.items office.new }
+    ensures same { R.records recorder.new ≡ R.records recorder.old }
 {
+    let served_file = server_settings.served_file;
     if !is_for_file(message, server_settings.file) {
-        return tell_refused(
-            alloc,
-            server_settings.served_file,
-            Fault::Store,
-            stream,
-            office,
-        );
+        return tell_refused(alloc, served_file, Fault::Store, stream, office, recorder);
     }
     let words = match words_of(alloc, &message.words) {
         Ok(words) => words,
-        Err(fault) => return tell_refused(
-            alloc,
-            server_settings.served_file,
-            fault,
-            stream,
-            office,
-        ),
+        Err(fault) => return tell_refused(alloc, served_file, fault, stream, office, recorder),
     };
-    let asked = unless_gone(served_order_by(alloc, &words), server_settings.served_file);
+    let asked = order_or_reason(alloc, &words, served_file, recorder);
     let order = OrderContext {
         alloc,
-        served_file: server_settings.served_file,
+        served_file,
         asked: &asked,
         attached: AttachedFiles {
             folder: Some(message.folder),
             files: &message.files,
         },
     };
-    respond_to_asked(&order, stream, office)
+    respond_to_asked(&order, stream, office, recorder)
 }
 
 /// Responds to an order whose message has been received: processes it in the office, sends its output in frames on its stream,
@@ -327,21 +374,27 @@ fn respond_to_message<L: Stream, A: ServedFile, S: Alter>(
 ///
 /// The response is fault 102, as for a file locked by another program, if the bytes aren't a message, or if the order comes
 /// from another version of the program or is for another file. For `init`, `migrate`, `serve`, `second`, `codes` and `forms slips`,
-/// the response says that the office is being served (111).
-pub fn answer_order<L: Stream, A: ServedFile, S: Alter>(
+/// the response says that the office is being served (111). If the record has failed, the response to a job says so (112).
+pub fn answer_order<L: Stream, A: ServedFile, S: Alter, R: Recorder>(
     alloc: Global,
     server_settings: ServerSettings<'_, A>,
     got: &[u8],
     stream: L,
     office: &mut Office<S>,
+    recorder: &mut R,
 ) -> (L, PendingResponse)
     requires fresh { HasTaken (L.taken stream) [] }
     requires whole { IsWholeMessage got.now }
     ensures told { IsSent (stream_of L.held L.taken L.failed) result.0 result.1.bytes.items result.1.sent }
-    ensures followed { FollowsOrder (settings_in A.whole server_settings.entry) (state S.Store) office.old got.now result.1.bytes.items office.new }
+    ensures followed { FollowsOrder (settings_by A.whole (R.records recorder.old) server_settings.entry) (state S.Store) (change_of R.found R.failed recorder.old recorder.new) office.old got.now
+        result.1.bytes.items office.new }
+    ensures same { R.records recorder.new ≡ R.records recorder.old }
 {
+    let served_file = server_settings.served_file;
     match read_message(alloc, &got[LENGTH..]) {
-        Ok(message) => respond_to_message(alloc, server_settings, &message, stream, office),
-        Err(fault) => tell_refused(alloc, server_settings.served_file, fault, stream, office),
+        Ok(message) => {
+            respond_to_message(alloc, server_settings, &message, stream, office, recorder)
+        }
+        Err(fault) => tell_refused(alloc, served_file, fault, stream, office, recorder),
     }
 }

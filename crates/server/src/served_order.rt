@@ -73,7 +73,7 @@ pub fn is_for_file(handed: &OrderMessage<'_>, file: FileNumbers) -> bool
 /// Returns what an order for the served file asks for. The orders `init`, `migrate`, `serve`, `second`, `codes` and `forms slips` are
 /// refused, because the office is being served. (On the command line, the program carries out the last two without the server.)
 pub fn served_order_by<'w>(alloc: Global, words: &'w [&'w str]) -> ServedOrder<'w>
-    ensures { (whole : Option Bool) → AsksSo whole (map (λ word. word.now) words.entry.now) result }
+    ensures { (whole : Option Bool) (recorded : Bool) → AsksSo whole recorded (map (λ word. word.now) words.entry.now) result }
 {
     match order(alloc, words) {
         Ok(Order::Perform(Task::InOffice(job))) => ServedOrder::Do(job),

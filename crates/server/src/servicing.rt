@@ -11,7 +11,8 @@ ghost use Rattle.wire.specs.Parsing.{IsParsed};
 ghost use Rattle.wire.specs.Responses.{fault_response};
 ghost use Rattle.wire.specs.Serving.{IsPut, IsServed};
 ghost use Rattle.wire.specs.Told.{IsWritten};
-ghost use Rattle.server.specs.Settings.{settings_in};
+ghost use Rattle.server.specs.RecordChanges.{served_view};
+ghost use Rattle.server.specs.Settings.{ServerSettingsEntry, settings_by};
 ghost use Rattle.server.specs.Servicing.{Services, IsCompleteFor, FailsOnlyAsLost, IsSameClient, HasSentNothing, answer_of};
 ghost use Rattle.office.specs.Answers.{IsReadAt, WhenOpenAt};
 ghost use Rattle.wire.specs.Requests.{Asks, http_request_entry, reading};
@@ -19,7 +20,7 @@ ghost use Rattle.wire.specs.declared.target.Resource.{Resource};
 ghost use Rattle.codes.specs.RateLimits.{limit_entry};
 ghost use Rattle.server.specs.Reads.{IsRead, IsNoFault, served_office, memory_entry};
 ghost use Rattle.server.specs.Endings.{EndsIn};
-ghost use Rattle.server.specs.Exchanges.{ChangesNothing, HasAnswered, IsGoneResponse, IsWaitResponse, RespondsToClient, ServesAsked, ServesClient, Exchange};
+ghost use Rattle.server.specs.Exchanges.{ChangesNothing, HasAnswered, IsGoneResponse, IsUnrecordedResponse, IsWaitResponse, RespondsToClient, ServesAsked, ServesClient, Exchange};
 
 use crate::console_order::answer_console;
 use crate::order_arrival::receive_message;
@@ -30,14 +31,15 @@ use crate::server_state::ServerState;
 use connections::{
     Client, CloseReason, Listener, PendingResponse, ReadProgress, Stream, VecSink, deliver,
 };
+use desk::Recorder;
 use office::Office;
 use sqlite::Alter;
 use std::alloc::Global;
 use streams::Broken;
 use wire::{
-    Completeness, HttpRequest, HttpSettings, MAX_HEAD_BYTES, Parsed, Resource, Response, Routes,
-    Served, answer_keying, parse, respond, write_gone_response, write_no_memory_response,
-    write_response, write_wait_response,
+    Completeness, HandledKeying, HttpRequest, HttpSettings, Keying, MAX_HEAD_BYTES, Parsed,
+    Resource, Response, Routes, Served, handle_keying, parse, respond, write_gone_response,
+    write_no_memory_response, write_response, write_unrecorded_response, write_wait_response,
 };
 
 /// The status of a response that reports a fault, which isn't cached.
@@ -145,14 +147,16 @@ fn response_to<S: Alter>(
 
 /// Returns the response to a read; none of it has been sent yet. If the response is cached, returns the cached one; otherwise
 /// asks the office, and caches its response.
-fn answer_reading<S: Alter>(
+fn answer_reading<S: Alter, R: Recorder>(
     what: Resource,
     office: &mut Office<S>,
-    kept: &mut ServerState,
+    kept: &mut ServerState<R>,
 ) -> PendingResponse
-    ensures served { (its : HttpSettingsEntry) (number moment : ℕ) (got : List ℕ) → Asks its got (reading what) → ServesClient its (state S.Store) (served_office office.old (memory_entry kept.old))
+    ensures served { (its : HttpSettingsEntry) (number moment : ℕ) (got : List ℕ) → Asks its got (reading what)
+        → ServesClient its (served_view (state S.Store) R.found R.failed) (served_office office.old (memory_entry kept.old))
         (record { listener = Listener.Clients; number = number; moment = moment; got = got; answer = result.bytes.items }) (served_office office.new (memory_entry kept.new)) }
     ensures limit { limit_entry kept.new.limit ≡ limit_entry kept.old.limit }
+    ensures same { R.records kept.new.recorder ≡ R.records kept.old.recorder }
     ensures untold { result.sent ≡ 0 }
 {
     if !office.is_closed() {
@@ -181,19 +185,50 @@ fn written(alloc: Global, response: &Response) -> PendingResponse
     }
 }
 
+/// Returns the response to a clerk's keying, which is sent to the office; none of the response has been sent yet. A keying that the
+/// office accepts is recorded. If recording it fails, it remains in effect, but the response says that it wasn't recorded (112). If
+/// the record has already failed, the response says so too, and the office isn't asked. The cache is emptied.
+fn answer_clerk<S: Alter, R: Recorder>(
+    keying: Keying,
+    office: &mut Office<S>,
+    kept: &mut ServerState<R>,
+) -> PendingResponse
+    ensures served { (settings : ServerSettingsEntry) (number moment : ℕ) (got : List ℕ) → settings.recorded ≡ R.records kept.old.recorder
+        → Asks settings.clients got (http_request_entry (HttpRequest.Keying keying)) → ServesAsked settings (served_view (state S.Store) R.found R.failed) (served_office office.old (memory_entry kept.old))
+        (record { listener = Listener.Clients; number = number; moment = moment; got = got; answer = result.bytes.items }) (served_office office.new (memory_entry kept.new)) }
+    ensures limit { limit_entry kept.new.limit ≡ limit_entry kept.old.limit }
+    ensures same { R.records kept.new.recorder ≡ R.records kept.old.recorder }
+    ensures untold { result.sent ≡ 0 }
+{
+    kept.reads.empty();
+    if kept.recorder.has_failed() {
+        return unrecorded_response(kept.alloc);
+    }
+    let HandledKeying { response, accepted } = handle_keying(kept.alloc, office, keying);
+    match accepted {
+        None => written(kept.alloc, &response),
+        Some(request) => match kept.recorder.record(&request) {
+            Ok(()) => written(kept.alloc, &response),
+            Err(Broken) => unrecorded_response(kept.alloc),
+        },
+    }
+}
+
 /// Returns the response to a client that needn't wait, given the bytes received from it; none of the response has been sent yet.
 /// The cache is emptied before a keying or an order, and if an allocation for the request fails.
-fn answer_request<A: ServedFile, S: Alter>(
+fn answer_request<A: ServedFile, S: Alter, R: Recorder>(
     server_settings: ServerSettings<'_, A>,
     parsed: Parsed,
     got: &[u8],
     office: &mut Office<S>,
-    kept: &mut ServerState,
+    kept: &mut ServerState<R>,
 ) -> PendingResponse
     requires { IsParsed (settings_entry server_settings.http) got.now parsed }
-    ensures served { (number moment : ℕ) → ServesAsked (settings_in A.whole server_settings.entry) (state S.Store) (served_office office.old (memory_entry kept.old))
+    ensures served { (number moment : ℕ) → ServesAsked (settings_by A.whole (R.records kept.old.recorder) server_settings.entry)
+        (served_view (state S.Store) R.found R.failed) (served_office office.old (memory_entry kept.old))
         (record { listener = Listener.Clients; number = number; moment = moment; got = got.now; answer = result.bytes.items }) (served_office office.new (memory_entry kept.new)) }
     ensures limit { limit_entry kept.new.limit ≡ limit_entry kept.old.limit }
+    ensures same { R.records kept.new.recorder ≡ R.records kept.old.recorder }
     ensures untold { result.sent ≡ 0 }
 {
     let Ok(asked) = parsed.asked(kept.alloc, server_settings.http, got) else {
@@ -202,11 +237,7 @@ fn answer_request<A: ServedFile, S: Alter>(
     };
     match asked {
         HttpRequest::Resource(what) => answer_reading(what, office, kept),
-        HttpRequest::Keying(keying) => {
-            kept.reads.empty();
-            let response = answer_keying(kept.alloc, office, keying);
-            written(kept.alloc, &response)
-        }
+        HttpRequest::Keying(keying) => answer_clerk(keying, office, kept),
         HttpRequest::Denied(why) => {
             let (bytes, _) = response_to(kept.alloc, HttpRequest::Denied(why), office);
             PendingResponse { bytes, sent: 0 }
@@ -225,7 +256,8 @@ fn answer_request<A: ServedFile, S: Alter>(
         }
         HttpRequest::Order(order) => {
             kept.reads.empty();
-            let response = answer_console(kept.alloc, server_settings, &order, office);
+            let recorder = &mut kept.recorder;
+            let response = answer_console(kept.alloc, server_settings, &order, office, recorder);
             written(kept.alloc, &response)
         }
     }
@@ -251,6 +283,19 @@ fn gone_response(alloc: Global) -> PendingResponse
 {
     let mut writer = VecSink::new(alloc);
     let _ = write_gone_response(&mut writer);
+    PendingResponse {
+        bytes: writer.into_bytes(),
+        sent: 0,
+    }
+}
+
+/// Returns the response when a keying wasn't recorded a second time; none of it has been sent yet.
+fn unrecorded_response(alloc: Global) -> PendingResponse
+    ensures told { (exchange : Exchange) → exchange.answer ≡ result.bytes.items → IsUnrecordedResponse exchange }
+    ensures untold { result.sent ≡ 0 }
+{
+    let mut writer = VecSink::new(alloc);
+    let _ = write_unrecorded_response(&mut writer);
     PendingResponse {
         bytes: writer.into_bytes(),
         sent: 0,
@@ -296,15 +341,17 @@ struct ReceivedRequest<'a> {
 /// the response says that the client must wait. If the file of the office is gone or replaced, the response says so, unless the
 /// request is a read of an open office. In both cases nothing else is done. Otherwise the request is processed and, if its code
 /// is wrong, the code is counted.
-fn answer_client<A: ServedFile, S: Alter>(
+fn answer_client<A: ServedFile, S: Alter, R: Recorder>(
     server_settings: ServerSettings<'_, A>,
     due: ReceivedRequest<'_>,
     office: &mut Office<S>,
-    kept: &mut ServerState,
+    kept: &mut ServerState<R>,
 ) -> PendingResponse
     requires { IsParsed (settings_entry server_settings.http) due.got.now due.parsed }
-    ensures meets { (number : ℕ) → RespondsToClient (settings_in A.whole server_settings.entry) (state S.Store) (served_office office.old (memory_entry kept.old))
+    ensures meets { (number : ℕ) → RespondsToClient (settings_by A.whole (R.records kept.old.recorder) server_settings.entry)
+        (served_view (state S.Store) R.found R.failed) (served_office office.old (memory_entry kept.old))
         (record { listener = Listener.Clients; number = number; moment = due.entry.moment; got = due.entry.got.now; answer = result.bytes.items }) (served_office office.new (memory_entry kept.new)) }
+    ensures same { R.records kept.new.recorder ≡ R.records kept.old.recorder }
     ensures untold { result.sent ≡ 0 }
 {
     let ReceivedRequest {
@@ -382,20 +429,22 @@ fn begin_answer<L: Stream>(
 }
 
 /// Services an order that has no response yet: receives its message and, once the message is complete, processes it.
-fn service_order<L: Stream, A: ServedFile, S: Alter>(
+fn service_order<L: Stream, A: ServedFile, S: Alter, R: Recorder>(
     server_settings: ServerSettings<'_, A>,
     now: u64,
     client: Client<L>,
     office: &mut Office<S>,
-    kept: &mut ServerState,
+    kept: &mut ServerState<R>,
 ) -> (Client<L>, Serviced)
     requires listener { client.listener ≡ Listener.Orders }
     requires fresh { HasTaken (L.taken client.stream) [] }
     requires unanswered { client.answer ≡ None }
     ensures is { (start : L) → IsOf (stream_of L.held L.taken L.failed) start client → IsOf (stream_of L.held L.taken L.failed) start result.0 }
     ensures same { IsSameClient client result.0 }
-    ensures turn { Services (settings_in A.whole server_settings.entry) (stream_of L.held L.taken L.failed) (state S.Store) now result.1 client result.0
+    ensures turn { Services (settings_by A.whole (R.records kept.old.recorder) server_settings.entry) (stream_of L.held L.taken L.failed)
+        (served_view (state S.Store) R.found R.failed) now result.1 client result.0
         (served_office office.old (memory_entry kept.old)) (served_office office.new (memory_entry kept.new)) }
+    ensures records_same { R.records kept.new.recorder ≡ R.records kept.old.recorder }
     ensures leaves { (why : CloseReason) → result.1 ≡ Serviced.Leaves why → EndsFor (stream_of L.held L.taken L.failed) why result.0 }
 {
     let mut client = client;
@@ -416,6 +465,7 @@ fn service_order<L: Stream, A: ServedFile, S: Alter>(
                 got.as_slice(),
                 stream,
                 office,
+                &mut kept.recorder,
             );
             let client = Client {
                 listener,
@@ -438,18 +488,20 @@ fn service_order<L: Stream, A: ServedFile, S: Alter>(
 ///
 /// The bytes received are the connection's own, from the first one on, and the response answers exactly those bytes. No other
 /// connection is affected.
-pub fn service<L: Stream, A: ServedFile, S: Alter>(
+pub fn service<L: Stream, A: ServedFile, S: Alter, R: Recorder>(
     server_settings: ServerSettings<'_, A>,
     now: u64,
     client: Client<L>,
     office: &mut Office<S>,
-    kept: &mut ServerState,
+    kept: &mut ServerState<R>,
 ) -> (Client<L>, Serviced)
     requires untold { HasSentNothing (stream_of L.held L.taken L.failed) client }
     ensures is { (start : L) → IsOf (stream_of L.held L.taken L.failed) start client → IsOf (stream_of L.held L.taken L.failed) start result.0 }
     ensures same { IsSameClient client result.0 }
-    ensures turn { Services (settings_in A.whole server_settings.entry) (stream_of L.held L.taken L.failed) (state S.Store) now result.1 client result.0
+    ensures turn { Services (settings_by A.whole (R.records kept.old.recorder) server_settings.entry) (stream_of L.held L.taken L.failed)
+        (served_view (state S.Store) R.found R.failed) now result.1 client result.0
         (served_office office.old (memory_entry kept.old)) (served_office office.new (memory_entry kept.new)) }
+    ensures records_same { R.records kept.new.recorder ≡ R.records kept.old.recorder }
     ensures leaves { (why : CloseReason) → result.1 ≡ Serviced.Leaves why → EndsFor (stream_of L.held L.taken L.failed) why result.0 }
 {
     let mut client = client;

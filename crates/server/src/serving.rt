@@ -1,24 +1,30 @@
 //! The server: connections are accepted and serviced concurrently, and their requests are processed one at a time.
 
-ghost use Rattle.std.specs.Prelude.{◌≡◌, ◌≢◌, ◌≤◌, ◌*◌, ◌<◌, ⊤, ℕ, Bool, [], IfSome, Ok, OnOk, Option, Some, is_some, length, true};
+ghost use Rattle.std.specs.Prelude.{◌≡◌, ◌≢◌, ◌≤◌, ◌*◌, ◌<◌, ◌++◌, ⊤, ℕ, Bool, [], false, IfSome, List, Ok, OnOk, Option, Some, is_some, length, true};
 ghost use Rattle.std.specs.Duration.{as_nanos};
 ghost use Rattle.std.specs.List.{list_all};
 ghost use Rattle.sqlite.specs.State.{HasCleanDisk};
 ghost use Rattle.sqlite.specs.Held.{state};
+ghost use Rattle.register.specs.Machine.{after};
+ghost use Rattle.register.specs.Offices.{empty_office};
+ghost use Rattle.register.specs.declared.command.Request.{Request};
+ghost use Rattle.store.specs.StateTables.{IsAt};
 ghost use Rattle.connections.specs.Streams.{stream_of};
 ghost use Rattle.connections.specs.Clients.{IsOf};
 ghost use Rattle.connections.specs.Closing.{IsWithin};
 ghost use Rattle.connections.specs.Traces.{Trace};
 ghost use Rattle.connections.specs.Tables.{most_clients};
 ghost use Rattle.wire.specs.Gates.{settings_entry};
-ghost use Rattle.server.specs.Blind.{ServersAnswerAsSeen};
+ghost use Rattle.server.specs.Blind.{RecordedServersAnswerAsSeen, ServersAnswerAsSeen};
+ghost use Rattle.server.specs.Exchanges.{Exchange, KeepsExchanges, KeepsInRecord};
+ghost use Rattle.server.specs.RecordChanges.{served_view};
 ghost use Rattle.server.specs.ServedConnections.{IsSound};
 ghost use Rattle.server.specs.Reads.{served_office, memory_entry};
-ghost use Rattle.server.specs.Settings.{ServerSettingsEntry, settings_in};
+ghost use Rattle.server.specs.Settings.{ServerSettingsEntry, settings_by, settings_in};
 ghost use Rattle.server.specs.Servicing.{HasSentNothing, LooksAtGate, WasServiced};
-ghost use Rattle.server.specs.Servers.{GoesOn, IsCalled, IsEndedBy, IsRound, IsSettled, IsUnfailed, OnMoved, ServesConnections, ServesFrom, is_idle};
+ghost use Rattle.server.specs.Servers.{GoesOn, IsCalled, IsEndedBy, IsRound, IsSettled, IsUnfailed, OnMoved, ServesConnections, ServesFrom, ServesRecorded, is_idle};
 
-use crate::blind::servers_answer_as_seen;
+use crate::blind::{recorded_servers_answer_as_seen, servers_answer_as_seen};
 use crate::serve_error::ServeError;
 use crate::served_file::ServedFile;
 use crate::server_settings::ServerSettings;
@@ -29,11 +35,13 @@ use connections::closing::{
 };
 use connections::connection_table::{longest_waiting, place_of_number};
 use connections::{AcceptOutcome, Client, CloseReason, ConnectionTable, Listener, Network};
+use desk::{NoRecord, Recorder};
 use office::Office;
 use sqlite::Alter;
 use std::alloc::{AllocError, Global};
 use std::time::Duration;
 use streams::Broken;
+use wire::Routes;
 
 /// The maximum duration of the next wait, in milliseconds, while there may be a pending connection that no event reports.
 const RECHECK_MILLIS: u64 = 1_000;
@@ -60,19 +68,20 @@ fn time_if_gated<D: Network, A>(
 /// Services an open connection at a given time. Returns the connection and, if it should be closed, the reason. Its time limit
 /// restarts after its request has been processed, however long that took. If there is a gate and the clock fails, the
 /// connection isn't serviced.
-fn service_one<D: Network, A: ServedFile, S: Alter>(
+fn service_one<D: Network, A: ServedFile, S: Alter, R: Recorder>(
     network: &mut D,
     server_settings: ServerSettings<'_, A>,
     client: Client<D::Stream>,
     office: &mut Office<S>,
-    kept: &mut ServerState,
+    kept: &mut ServerState<R>,
 ) -> (Client<D::Stream>, Result<Option<CloseReason>, Broken>)
     requires untold { HasSentNothing (stream_of D.Stream.held D.Stream.taken D.Stream.failed) client }
     ensures is { (start : D.Stream) → IsOf (stream_of D.Stream.held D.Stream.taken D.Stream.failed) start client → IsOf (stream_of D.Stream.held D.Stream.taken D.Stream.failed) start result.0 }
     ensures same { (result.0.listener ≡ client.listener) × (result.0.number ≡ client.number) }
-    ensures went { WasServiced (is_some (settings_in A.whole server_settings.entry).clients.gate) (settings_in A.whole server_settings.entry) (stream_of D.Stream.held D.Stream.taken D.Stream.failed)
-        (state S.Store) result.1
+    ensures went { WasServiced (is_some (settings_in A.whole server_settings.entry).clients.gate) (settings_by A.whole (R.records kept.old.recorder) server_settings.entry)
+        (stream_of D.Stream.held D.Stream.taken D.Stream.failed) (served_view (state S.Store) R.found R.failed) result.1
         (D.known network.old) (D.known network.new) client result.0 (served_office office.old (memory_entry kept.old)) (served_office office.new (memory_entry kept.new)) }
+    ensures records_same { R.records kept.new.recorder ≡ R.records kept.old.recorder }
 {
     let Ok(now) = time_if_gated(network, server_settings) else {
         return (client, Err(Broken));
@@ -118,22 +127,23 @@ fn settle<D: Network>(
 
 /// Services each ready connection that is still open, in the order in which the network reports them. Connections that are done
 /// or lost are closed. If the clock fails, the connection stays in the table.
-fn service_ready<D: Network, A: ServedFile, S: Alter>(
+fn service_ready<D: Network, A: ServedFile, S: Alter, R: Recorder>(
     network: &mut D,
     server_settings: ServerSettings<'_, A>,
     table: &mut ConnectionTable<D::Stream>,
     office: &mut Office<S>,
-    kept: &mut ServerState,
+    kept: &mut ServerState<R>,
 ) -> Result<(), Broken>
-    requires sound { IsSound (settings_in A.whole server_settings) (stream_of D.Stream.held D.Stream.taken D.Stream.failed) table.old }
+    requires sound { IsSound (settings_by A.whole (R.records kept.old.recorder) server_settings) (stream_of D.Stream.held D.Stream.taken D.Stream.failed) table.old }
     requires within { IsWithin table.old }
-    ensures goes_on { ServesFrom (settings_in A.whole server_settings.entry) (stream_of D.Stream.held D.Stream.taken D.Stream.failed) (state S.Store) (D.known network.old)
-        (D.known network.new) table.old table.new
+    ensures goes_on { ServesFrom (settings_by A.whole (R.records kept.old.recorder) server_settings.entry) (stream_of D.Stream.held D.Stream.taken D.Stream.failed)
+        (served_view (state S.Store) R.found R.failed) (D.known network.old) (D.known network.new) table.old table.new
         (served_office office.old (memory_entry kept.old)) (served_office office.new (memory_entry kept.new)) }
     ensures came { table.new.came ≡ table.old.came }
     ensures counted { table.new.counted ≡ table.old.counted }
     ensures within { OnOk result (IsWithin table.new) }
     ensures called { IsCalled result (D.known network.old) (D.known network.new) }
+    ensures records_same { R.records kept.new.recorder ≡ R.records kept.old.recorder }
 {
     for _ in 0..u64::MAX {
         let Some(number) = network.next_ready() else {
@@ -312,17 +322,17 @@ fn has_moved<A: ServedFile, L>(served_file: &A, clients: &[Client<L>]) -> bool
 
 /// Serves in rounds, until all clients have been accepted and all connections are closed, or until a new office has taken the place
 /// of the one that is served and all connections are idle. Each round begins by servicing the connections that are ready.
-fn serve_rounds<D: Network, A: ServedFile, S: Alter>(
+fn serve_rounds<D: Network, A: ServedFile, S: Alter, R: Recorder>(
     network: &mut D,
     serving: RoundSettings<'_, A>,
     table: &mut ConnectionTable<D::Stream>,
     office: &mut Office<S>,
-    kept: &mut ServerState,
+    kept: &mut ServerState<R>,
 ) -> Result<(), ServeError>
-    requires sound { IsSound (settings_in A.whole serving.server_settings) (stream_of D.Stream.held D.Stream.taken D.Stream.failed) table.old }
+    requires sound { IsSound (settings_by A.whole (R.records kept.old.recorder) serving.server_settings) (stream_of D.Stream.held D.Stream.taken D.Stream.failed) table.old }
     requires within { IsWithin table.old }
-    ensures goes_on { ServesFrom (settings_in A.whole serving.entry.server_settings) (stream_of D.Stream.held D.Stream.taken D.Stream.failed) (state S.Store) (D.known network.old)
-        (D.known network.new) table.old table.new
+    ensures goes_on { ServesFrom (settings_by A.whole (R.records kept.old.recorder) serving.entry.server_settings) (stream_of D.Stream.held D.Stream.taken D.Stream.failed)
+        (served_view (state S.Store) R.found R.failed) (D.known network.old) (D.known network.new) table.old table.new
         (served_office office.old (memory_entry kept.old)) (served_office office.new (memory_entry kept.new)) }
     ensures few { table.old.counted ≤ serving.entry.most → table.new.counted ≤ serving.entry.most }
     ensures all { OnOk result (serving.entry.most ≤ table.new.counted) }
@@ -379,11 +389,58 @@ fn serve_rounds<D: Network, A: ServedFile, S: Alter>(
 /// Connections that are still open when serving ends are closed last; if serving ends without a failure, there are none.
 ///
 /// What a clerk sees of the office determines what is sent under that clerk's number, apart from faults and from the responses
-/// saying that the client must wait or that the file is gone.
+/// saying that the client must wait, that the file is gone, or that the record failed.
+///
+/// Each request that the office accepts is recorded, and flushed, before it is acknowledged. Suppose that the record led to the
+/// office's state at the beginning. Then whatever a stop leaves of the record leads to the state after the accepted requests of a
+/// prefix, which contains each earlier request, each one that was answered, and at most one more. So the record and the office
+/// differ by at most one request. Once recording a request has failed, that request isn't acknowledged (112), although it remains
+/// in effect, and no other is sent to the office: a clerk's keying gets 503 with fault 112, and an order for a job prints this
+/// fault. Reads continue. The recorder is returned.
 ///
 /// The error says why serving ended early: the network or its clock failed, the table couldn't be allocated, the number of
 /// rounds reached its maximum, or a new office took the place of this one. The last is reported only if the served file says so.
 /// What was answered before remains valid. The connections that are still open then are closed.
+pub fn serve_recorded<D: Network, A: ServedFile, S: Alter, R: Recorder>(
+    alloc: Global,
+    network: &mut D,
+    server_settings: ServerSettings<'_, A>,
+    connections: Option<u64>,
+    office: &mut Office<S>,
+    recorder: R,
+) -> (Result<(), ServeError>, R)
+    ensures served { ServesRecorded (settings_by A.whole (R.records recorder) server_settings.entry) (stream_of D.Stream.held D.Stream.taken D.Stream.failed)
+        (served_view (state S.Store) R.found R.failed) (D.known network.old) (D.known network.new) connections office.old office.new recorder result.0 result.1 }
+    ensures recorded { HasCleanDisk (state S.Store office.new.held) → office.old.closed ≡ false → (earlier : List Request) → IsAt (after empty_office earlier) (state S.Store office.old.held)
+        → (exchanges : List Exchange) × (kept : KeepsExchanges (state S.Store) (settings_by A.whole (R.records recorder) server_settings.entry) earlier exchanges office.new.closed
+        (state S.Store office.new.held))
+        × KeepsInRecord (R.found recorder) (R.found result.1) earlier (kept.answered ++ kept.last) (length kept.answered) }
+    ensures ended { IsEndedBy (D.known network.old) (D.known network.new) result.0 }
+    ensures closed { office.old.closed ≡ true → office.new ≡ office.old }
+    ensures clean { HasCleanDisk (state S.Store office.new.held) → HasCleanDisk (state S.Store office.old.held) }
+    ensures moved { OnMoved result.0 (A.moved server_settings.entry.served_file.now) }
+    // What is sent to each clerk depends only on what that clerk sees.
+    ensures blind { RecordedServersAnswerAsSeen (stream_of D.Stream.held D.Stream.taken D.Stream.failed) (served_view (state S.Store) R.found R.failed) }
+{
+    recorded_servers_answer_as_seen::<D, S, R>();
+    let most = connections.unwrap_or(u64::MAX);
+    let Ok(mut table) = ConnectionTable::new(alloc) else {
+        return (Err(ServeError::Memory), recorder);
+    };
+    let Ok(routes) = Routes::new(alloc) else {
+        return (Err(ServeError::Memory), recorder);
+    };
+    let mut kept = ServerState::new(alloc, routes, recorder);
+    let serving = RoundSettings {
+        server_settings,
+        most,
+    };
+    let ended = serve_rounds(network, serving, &mut table, office, &mut kept);
+    close_all(network, &mut table);
+    (ended, kept.into_recorder())
+}
+
+/// Serves like [`serve_recorded`], without a second record.
 pub fn serve_connections<D: Network, A: ServedFile, S: Alter>(
     alloc: Global,
     network: &mut D,
@@ -401,18 +458,13 @@ pub fn serve_connections<D: Network, A: ServedFile, S: Alter>(
     ensures blind { ServersAnswerAsSeen (stream_of D.Stream.held D.Stream.taken D.Stream.failed) (state S.Store) }
 {
     servers_answer_as_seen::<D, S>();
-    let most = connections.unwrap_or(u64::MAX);
-    let Ok(mut table) = ConnectionTable::new(alloc) else {
-        return Err(ServeError::Memory);
-    };
-    let Ok(mut kept) = ServerState::new(alloc) else {
-        return Err(ServeError::Memory);
-    };
-    let serving = RoundSettings {
+    let (ended, NoRecord) = serve_recorded(
+        alloc,
+        network,
         server_settings,
-        most,
-    };
-    let ended = serve_rounds(network, serving, &mut table, office, &mut kept);
-    close_all(network, &mut table);
+        connections,
+        office,
+        NoRecord,
+    );
     ended
 }

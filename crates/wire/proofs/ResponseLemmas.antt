@@ -7,7 +7,7 @@ use Rattle.wire.specs.declared.account.Account.{Account}
 use Rattle.wire.specs.declared.request_error.RequestError.{RequestError}
 use Rattle.wire.specs.declared.request_error.RequestError.TheVariants.{BadRequest, Forbidden, MethodNotAllowed, NotFound, TooLarge, Unauthorized, WrongCode}
 use Rattle.wire.specs.declared.request_error.Verb.TheVariants.{Get, Post}
-use Rattle.wire.specs.declared.response.TheConstants.{BAD_REQUEST, FORBIDDEN, GONE, SIGNED_OUT, NOT_FOUND, NO_MEMORY, ONLY_GET, ONLY_POST, OUTPUT_FAILED, TOO_LARGE, WAITS}
+use Rattle.wire.specs.declared.response.TheConstants.{BAD_REQUEST, FORBIDDEN, GONE, SIGNED_OUT, NOT_FOUND, NO_MEMORY, ONLY_GET, ONLY_POST, OUTPUT_FAILED, TOO_LARGE, UNRECORDED, WAITS}
 
 pub bad_request-told : BAD_REQUEST.now ≡ response_bytes (denied_response BadRequest)
 unfolding digits lines_and_body
@@ -44,6 +44,10 @@ waits-told = refl
 pub gone-told : GONE.now ≡ response_bytes (fault_response 113)
 unfolding digits lines_and_body
 gone-told = refl
+
+pub unrecorded-told : UNRECORDED.now ≡ response_bytes (fault_response 112)
+unfolding digits lines_and_body
+unrecorded-told = refl
 
 pub output_failed-told : OUTPUT_FAILED.now ≡ response_bytes (fault_response 107)
 unfolding digits lines_and_body

@@ -1,11 +1,11 @@
 -- The response in each state of the office, and the state that a connection leaves.
-use Rattle.std.specs.Prelude.{◌≡◌, ◌==◌, ◌⊎◌, ◌∷◌, ⊤, Bool, List, [], Option, Some, None, Result, Ok, Err, IfSome, find, map, string_bytes, ℕ}
+use Rattle.std.specs.Prelude.{◌≡◌, ◌==◌, ◌⊎◌, ◌∷◌, ⊤, Bool, false, true, List, [], Option, Some, None, Result, Ok, Err, IfSome, find, map, string_bytes, ℕ}
 use Rattle.std.specs.Io.KnownBytes.{Appends}
 use Rattle.sqlite.specs.State.{State}
 use Rattle.streams.specs.Streams.{AppendsBeginning}
 use Rattle.serde_json.specs.Data.{Data}
 use Rattle.serde_json.specs.Written.{compact_text}
-use Rattle.register.specs.Machine.{Outcome, state_after, step_of}
+use Rattle.register.specs.Machine.{Outcome, after_one, is_accepted, state_after, step_of}
 use Rattle.register.specs.Offices.{OfficeState}
 use Rattle.register.specs.Reasons.{reason_number, reason_text}
 use Rattle.register.specs.declared.command.Command.TheVariants as command
@@ -41,6 +41,7 @@ use Rattle.wire.specs.declared.office_read.OfficeRead.{OfficeRead}
 use Rattle.wire.specs.declared.office_read.OfficeRead.TheVariants as read
 use Rattle.wire.specs.declared.public_target.PublicTarget.{PublicTarget}
 use Rattle.wire.specs.declared.public_target.PublicTarget.TheVariants as public_target
+use Rattle.wire.specs.declared.request.Keying.{Keying}
 use Rattle.wire.specs.declared.request_error.RequestError.{RequestError}
 use Rattle.wire.specs.declared.request_error.RequestError.TheVariants.{NotFound}
 use Rattle.wire.specs.declared.response.Response.{Response}
@@ -125,6 +126,10 @@ pub record IsHandedOn (clerk batch : ℕ) (entry : KeyingEntry) (request : Reque
   pub round : handed.round ≡ entry.round
   pub papers : map string_bytes handed.papers.items ≡ entry.papers
 
+-- the keying that a request contains
+abbrev pub keying_entry : Keying → KeyingEntry
+keying_entry k = record { id = string_bytes k.id; round = k.round; papers = map string_bytes k.papers.items }
+
 -- the outcome of a clerk's keying in a given state: the outcome of any request that may send the keying to the office
 pub record IsOutcome (s : OfficeState) (clerk batch : ℕ) (entry : KeyingEntry) (outcome : Outcome) : Type 0 where
   pub request : Request
@@ -176,6 +181,17 @@ abbrev pub IsReadTold : {X Y : Type 0} → (X → ResponseEntry) → (Y → X) �
 IsReadTold entry view (Ok y) response = IsTold (entry (view y)) response
 IsReadTold entry view (Err (Refused why)) response = IsTold (refused_for why) response
 IsReadTold entry view (Err (Failed f)) response = IsTold (fault_response (fault_number f)) response
+
+-- A clerk's keying was sent to the office in a given state. If the given request was accepted just now, it is the one that was sent; the response is the reply, and the
+-- office is open in the state after it. If there is no such request, the keying was accepted earlier or is refused, and the office is open in the same state; or the
+-- response reports a fault.
+abbrev pub AcceptsKeying : OfficeState → ℕ → ℕ → KeyingEntry → Response → Option Request → Bool → State → Type 0
+AcceptsKeying s clerk batch entry response (Some request) closed st =
+    IsHandedOn clerk batch entry request × (is_accepted (step_of s request) ≡ true) × IsTold (told_response (told_of (step_of s request))) response × IsOpenAt (after_one s request) closed st
+AcceptsKeying s clerk batch entry response None closed st =
+    (request : Request) × IsHandedOn clerk batch entry request
+    × (((is_accepted (step_of s request) ≡ false) × IsTold (told_response (told_of (step_of s request))) response × IsOpenAt s closed st)
+    ⊎ ((f : Fault) × IsTold (fault_response (fault_number f)) response × (IsKeptOpen s f closed st ⊎ IsClosedIn s (step_of s request) f closed st)))
 
 -- ---- the response, and what is sent to the office for it
 

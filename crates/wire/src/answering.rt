@@ -1,16 +1,16 @@
 //! Asking the office on behalf of a request, and building the response.
 
-ghost use Rattle.std.specs.Prelude.{◌≡◌, false, map, true, string_bytes};
+ghost use Rattle.std.specs.Prelude.{◌≡◌, IfSome, None, false, map, true, string_bytes};
 ghost use Rattle.register.specs.Status.{paper_entry, work_entry};
 ghost use Rattle.sqlite.specs.State.{HasCleanDisk};
 ghost use Rattle.sqlite.specs.Held.{state};
 ghost use Rattle.register.specs.Offices.{OfficeState};
 ghost use Rattle.store.specs.StateTables.{IsAt};
 ghost use Rattle.tables.specs.Faults.{fault_number};
-ghost use Rattle.office.specs.Answers.{told};
+ghost use Rattle.office.specs.Answers.{is_done, told};
 ghost use Rattle.wire.specs.Requests.{http_request_entry, reading};
 ghost use Rattle.wire.specs.Responses.{fault_response, text_response};
-ghost use Rattle.wire.specs.Serving.{IsReadTold, Readies, closed_response, paper_response, told_response, work_response};
+ghost use Rattle.wire.specs.Serving.{AcceptsKeying, IsHandedOn, IsReadTold, Readies, closed_response, keying_entry, paper_response, told_response, work_response};
 ghost use Rattle.wire.specs.Told.{IsTold};
 
 use crate::candidates::paper_body;
@@ -25,7 +25,7 @@ use crate::target::Resource;
 use crate::work::work_body;
 use http::StatusCode;
 use office::{Answer, Office, ReadError};
-use register::{BallotPaper, Command, KeyingCommand, Work};
+use register::{BallotPaper, Command, KeyingCommand, Request, Work};
 use sqlite::Alter;
 use std::alloc::Global;
 use store::Fault;
@@ -41,12 +41,40 @@ fn answered(alloc: Global, answer: &Answer) -> Response
     }
 }
 
-/// Sends a clerk's keying to the office and returns the response. A closed office stays as it is.
-pub fn answer_keying<S: Alter>(alloc: Global, office: &mut Office<S>, keying: Keying) -> Response
+/// A clerk's keying that was sent to the office: the response, and the request, if the office accepted it just now.
+#[derive(Drop)]
+pub struct HandledKeying {
+    pub response: Response,
+    pub accepted: Option<Request>,
+}
+
+/// Returns whether an answer is the reply to a request that was accepted just now.
+fn is_done(answer: &Answer) -> bool
+    ensures { result ≡ is_done (told answer.now) }
+{
+    match answer {
+        Answer::Done(_) => true,
+        Answer::Kept(_) => false,
+        Answer::Refused(_) => false,
+    }
+}
+
+/// Sends a clerk's keying to the office. Returns the response and, if the office accepted the keying just now, the request that
+/// was sent; the response is then the reply. No request is returned if the keying was accepted earlier or is refused, or after a
+/// fault. A closed office stays as it is.
+pub fn handle_keying<S: Alter>(
+    alloc: Global,
+    office: &mut Office<S>,
+    keying: Keying,
+) -> HandledKeying
     ensures answers { HasCleanDisk (state S.Store office.new.held) → office.old.closed ≡ false → (s : OfficeState) → IsAt s (state S.Store office.old.held)
-        → Readies s (http_request_entry (HttpRequest.Keying keying)) result office.new.closed (state S.Store office.new.held) }
+        → Readies s (http_request_entry (HttpRequest.Keying keying)) result.response office.new.closed (state S.Store office.new.held) }
+    ensures accepts { HasCleanDisk (state S.Store office.new.held) → office.old.closed ≡ false → (s : OfficeState) → IsAt s (state S.Store office.old.held)
+        → AcceptsKeying s keying.clerk keying.batch (keying_entry keying) result.response result.accepted office.new.closed (state S.Store office.new.held) }
+    ensures handed { IfSome result.accepted (λ request. IsHandedOn keying.clerk keying.batch (keying_entry keying) request) }
     ensures closed { office.old.closed ≡ true → office.new ≡ office.old }
-    ensures closed_told { office.old.closed ≡ true → IsTold (fault_response (fault_number Fault.Closed)) result }
+    ensures closed_told { office.old.closed ≡ true → IsTold (fault_response (fault_number Fault.Closed)) result.response }
+    ensures closed_none { office.old.closed ≡ true → result.accepted ≡ None }
     ensures clean { HasCleanDisk (state S.Store office.new.held) → HasCleanDisk (state S.Store office.old.held) }
 {
     let Keying {
@@ -56,15 +84,44 @@ pub fn answer_keying<S: Alter>(alloc: Global, office: &mut Office<S>, keying: Ke
         round,
         papers,
     } = keying;
-    let command = Command::Keying(KeyingCommand {
-        batch,
-        round,
-        papers,
-    });
-    match office.handle(clerk, id.as_str(), &command) {
-        Ok(answer) => answered(alloc, &answer),
-        Err(fault) => faulted(alloc, fault),
+    let request = Request {
+        actor: clerk,
+        id,
+        command: Command::Keying(KeyingCommand {
+            batch,
+            round,
+            papers,
+        }),
+    };
+    match office.handle(request.actor, request.id.as_str(), &request.command) {
+        Ok(answer) => {
+            let response = answered(alloc, &answer);
+            if is_done(&answer) {
+                let accepted = Some(request);
+                return HandledKeying { response, accepted };
+            }
+            HandledKeying {
+                response,
+                accepted: None,
+            }
+        }
+        Err(fault) => HandledKeying {
+            response: faulted(alloc, fault),
+            accepted: None,
+        },
     }
+}
+
+/// Sends a clerk's keying to the office and returns the response. A closed office stays as it is.
+pub fn answer_keying<S: Alter>(alloc: Global, office: &mut Office<S>, keying: Keying) -> Response
+    ensures answers { HasCleanDisk (state S.Store office.new.held) → office.old.closed ≡ false → (s : OfficeState) → IsAt s (state S.Store office.old.held)
+        → Readies s (http_request_entry (HttpRequest.Keying keying)) result office.new.closed (state S.Store office.new.held) }
+    ensures closed { office.old.closed ≡ true → office.new ≡ office.old }
+    ensures closed_told { office.old.closed ≡ true → IsTold (fault_response (fault_number Fault.Closed)) result }
+    ensures clean { HasCleanDisk (state S.Store office.new.held) → HasCleanDisk (state S.Store office.old.held) }
+{
+    let HandledKeying { response, .. } = handle_keying(alloc, office, keying);
+    response
 }
 
 /// Returns the response with a ward's stage sheet or declaration, or with the refusal or fault.

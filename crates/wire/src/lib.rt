@@ -10,9 +10,10 @@
 //! [`parse`] parses the head of a request once. The result, [`Parsed`], says whether more bytes are needed ([`Completeness`])
 //! and whose code the request needs ([`Authentication`]). Given the bytes, it also says what is requested ([`HttpRequest`]), or
 //! why the request is rejected before the office is asked ([`RequestError`]). [`respond`] asks the office and writes the
-//! response. A server that has a keying hands it to [`answer_keying`] and writes the response with [`write_response`]. It
-//! carries out an order of the console itself ([`ConsoleOrder`]) and responds with `Response::of_order`. [`serve_one`] serves
-//! one connection from any reader; it reads the request ([`read_request`]) through the same `Head`.
+//! response. A server that has a keying hands it to [`handle_keying`] and writes the response with [`write_response`]; it learns
+//! which request was accepted, if any. It carries out an order of the console itself ([`ConsoleOrder`]) and responds with
+//! `Response::of_order`. [`serve_one`] serves one connection from any reader; it reads the request ([`read_request`]) through
+//! the same `Head`.
 //!
 //! [`HttpSettings`] are the HTTP settings: the [`Origin`] of pages that come through a proxy, the [`Gate`], and what is shown
 //! in public ([`Public`]), if any. [`without_settings`] serves a connection without any of them. A request is rejected if a
@@ -68,7 +69,7 @@ mod answering;
 mod serving;
 
 pub use account::Account;
-pub use answering::answer_keying;
+pub use answering::{HandledKeying, answer_keying, handle_keying};
 pub use authentication::Authentication;
 pub use completeness::Completeness;
 pub use console_order::{ConsoleFile, ConsoleOrder};
@@ -84,7 +85,7 @@ pub use request_error::{RequestError, Verb};
 pub use response::Response;
 pub use serving::{
     Served, respond, serve_one, write_gone_response, write_no_memory_response, write_response,
-    write_wait_response,
+    write_unrecorded_response, write_wait_response,
 };
 pub use settings::{FixedPage, Gate, HttpSettings, Page, Public};
 pub use target::{Resource, Routes};

@@ -75,6 +75,10 @@ const WAITS: &str =
 const GONE: &str =
     "HTTP/1.1 503 Service Unavailable\r\nContent-Type: application/json\r\nContent-Length: 13\r\nConnection: close\r\n\r\n{\"fault\":113}";
 
+/// The response when a request wasn't recorded a second time.
+const UNRECORDED: &str =
+    "HTTP/1.1 503 Service Unavailable\r\nContent-Type: application/json\r\nContent-Length: 13\r\nConnection: close\r\n\r\n{\"fault\":112}";
+
 /// The response to an order whose output isn't UTF-8.
 const OUTPUT_FAILED: &str =
     "HTTP/1.1 503 Service Unavailable\r\nContent-Type: application/json\r\nContent-Length: 13\r\nConnection: close\r\n\r\n{\"fault\":107}";
@@ -329,6 +333,16 @@ impl Response {
         Response {
             status: 503,
             bytes: Bytes::Fixed(GONE),
+        }
+    }
+
+    /// Returns the response when the request wasn't recorded a second time (112).
+    pub fn unrecorded() -> Response
+        ensures { IsWritten (fault_response 112) result }
+    {
+        Response {
+            status: 503,
+            bytes: Bytes::Fixed(UNRECORDED),
         }
     }
 

@@ -74,6 +74,19 @@ pub fn write_gone_response<W: Sink>(writer: &mut W) -> Served
     write_response(writer, &Response::gone())
 }
 
+/// Writes the response saying that the request wasn't recorded a second time (112).
+///
+/// Returns `WriteFailed` only if the writer failed; the writer's failure count is then one higher, and a prefix of the response
+/// was written.
+pub fn write_unrecorded_response<W: Sink>(writer: &mut W) -> Served
+    requires { W.failed writer.old < 2 ^ 64 - 1 }
+    ensures told { IsServed (IsWritten (fault_response 112)) (W.taken writer.old) (W.taken writer.new) result }
+    ensures answered { OnAnswered result (W.failed writer.new ≡ W.failed writer.old) }
+    ensures write_failed { OnWriteFailed result (W.failed writer.new ≡ W.failed writer.old + 1) }
+{
+    write_response(writer, &Response::unrecorded())
+}
+
 /// Writes the response saying that an allocation failed (101).
 ///
 /// Returns `WriteFailed` only if the writer failed; the writer's failure count is then one higher, and a prefix of the response

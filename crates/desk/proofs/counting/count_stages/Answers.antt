@@ -49,7 +49,7 @@ loop-request-preserved g c =
             let so = so_far.is (c.stage_of-outcome.ensures.clean clean) is_open s at keep ward id are in
             let it = c.stage_of-outcome.ensures.told clean so.0.open_at.is_open so.0.end so.0.open_at.at in
             let known_is = rw (c.as_str.ensures.value, c.first_id-first.ensures ward id are) at c.eq-is_first.ensures in
-            let recorded = g.R.Recorder.records c.loop-request.recorder in
+            let recorded = g.R.Recorder.failed c.stage_of-outcome.new.recorder in
             let more = stage_more recorded first keep line s ward id rs mid i c.request-item.result so_far.said c.loop-request.office.closed mid page it.0 closed next within c.request-item.is so.0
             c.eq-is_first.result known_is
             (subst (IsStageBy recorded mid closed next c.eq-is_first.result so.0.end c.request-item.result page it.0) c.if-not-more.false it.1) (sym (fronted_status line page) ∙ fine.1) in
@@ -89,11 +89,11 @@ returns-then-status-ne0-clause-counted g c =
           let tells = since first mid next honest c.loop-request.invariant.keeps_connection c.stage_of-outcome.ensures.keeps_connection in
           let known_is = rw (c.as_str.ensures.value, c.first_id-first.ensures ward id are) at c.eq-is_first.ensures in
           let it = c.stage_of-outcome.ensures.told clean so.0.open_at.is_open so.0.end so.0.open_at.at in
-          let recorded = g.R.Recorder.records c.args.recorder.now in
+          let recorded = g.R.Recorder.failed c.stage_of-outcome.new.recorder in
           let first_is = c.eq-is_first.result in
           let goes = c.stage_of-outcome.result.1 in
           let r = c.request-item.result in
-          let met = subst (λ b. IsStageBy b mid closed next first_is so.0.end r page it.0 goes) c.loop-request.invariant.same it.1 in
+          let met = it.1 in
           let stage = stage_since recorded first mid closed next first_is so.0.end r page it.0 goes tells met in
           let counted = stage_last recorded first keep line s ward id rs i r so_far.said c.loop-request.office.closed mid page told.0 it.0
           goes closed next within c.request-item.is so.0 first_is known_is stage
@@ -143,11 +143,11 @@ returns-then-not-more-clause-counted g c =
           let tells = since first mid next honest c.loop-request.invariant.keeps_connection c.stage_of-outcome.ensures.keeps_connection in
           let known_is = rw (c.as_str.ensures.value, c.first_id-first.ensures ward id are) at c.eq-is_first.ensures in
           let it = c.stage_of-outcome.ensures.told clean so.0.open_at.is_open so.0.end so.0.open_at.at in
-          let recorded = g.R.Recorder.records c.args.recorder.now in
+          let recorded = g.R.Recorder.failed c.stage_of-outcome.new.recorder in
           let first_is = c.eq-is_first.result in
           let goes = c.stage_of-outcome.result.1 in
           let r = c.request-item.result in
-          let met = subst (λ b. IsStageBy b mid closed next first_is so.0.end r page it.0 goes) c.loop-request.invariant.same it.1 in
+          let met = it.1 in
           let stage = stage_since recorded first mid closed next first_is so.0.end r page it.0 goes tells met in
           let counted = stage_last recorded first keep line s ward id rs i r so_far.said c.loop-request.office.closed mid page told.0 it.0
           goes closed next within c.request-item.is so.0 first_is known_is stage
@@ -182,7 +182,7 @@ returns-clause-counted g c =
           let course = told_above so.0.front so_far.said nothing_more in (
             course.requests,
             course.answered,
-            stages_all (g.R.Recorder.records c.args.recorder.now) (state g.S.Store c.args.office.now.held) keep c.args.line s ward id c.args.requests.now c.loop-request.request-index so_far.said
+            stages_all (g.R.Recorder.failed c.loop-request.recorder) (state g.S.Store c.args.office.now.held) keep c.args.line s ward id c.args.requests.now c.loop-request.request-index so_far.said
                 c.loop-request.office.closed (state g.S.Store c.loop-request.office.held) c.loop-request-test.false so.0,
             λ unfailed.
                 let before = so.1 unfailed in

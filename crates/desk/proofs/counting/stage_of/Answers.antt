@@ -16,8 +16,8 @@ returns-then-has_failed-clause-told g c = λ clean is_open s at.
     let broken = sym c.has_failed.ensures.value ∙ c.if-has_failed.true in (
       0,
       (
-        unrecorded_answer (g.R.Recorder.records c.args.recorder.now) st c.args.office.now.closed st (λ t q. page_counted c.args.is_first) s c.args.request.now 0 (failed SecondRecord)
-            (c.has_failed.ensures.recorded broken) (refl, refl, inr (record { is_open = is_open; at = at })),
+        unrecorded_answer (g.R.Recorder.failed c.args.recorder.now) st c.args.office.now.closed st (λ t q. page_counted c.args.is_first) s c.args.request.now 0 (failed SecondRecord)
+            broken (refl, refl, inr (record { is_open = is_open; at = at })),
         refl,
       ),
       λ fine. absurd (true≢false (sym broken ∙ fine)),
@@ -29,7 +29,7 @@ returns-in-Ok-clause-told g c = λ clean is_open s at.
     let handled = rw c.in-Ok-Done.field-0-is at (rw c.as_str.ensures.value at (c.in-Ok-Done.ensures.handled clean is_open s at)) in (
       1,
       (
-        plain_answer (g.R.Recorder.records c.args.recorder.now) (state g.S.Store c.args.office.now.held) c.handle.new.self.closed (state g.S.Store c.handle.new.self.held)
+        plain_answer (g.R.Recorder.failed c.record.new.self) (state g.S.Store c.args.office.now.held) c.handle.new.self.closed (state g.S.Store c.handle.new.self.held)
             (λ t q. page_counted c.args.is_first) s r 1 _
             (inl (refl, ap (page_counted c.args.is_first) handled.0, handled.1)),
         ap (λ (b : Bool). 1 == 1 && not b) (ap tells_no handled.0 ∙ no_is_refused _),
@@ -45,8 +45,8 @@ returns-in-Err-record-clause-told g c = λ clean is_open s at.
     let took = done_accepted (step_of s r) _ handled.0 in (
       0,
       (
-        unrecorded_answer (g.R.Recorder.records c.args.recorder.now) (state g.S.Store c.args.office.now.held) c.handle.new.self.closed (state g.S.Store c.handle.new.self.held)
-            (λ t q. page_counted c.args.is_first) s r 0 (failed SecondRecord) c.in-Err-record.ensures.err.0 (refl, refl, inl (took, handled.1)),
+        unrecorded_answer (g.R.Recorder.failed c.record.new.self) (state g.S.Store c.args.office.now.held) c.handle.new.self.closed (state g.S.Store c.handle.new.self.held)
+            (λ t q. page_counted c.args.is_first) s r 0 (failed SecondRecord) c.in-Err-record.ensures.err.1 (refl, refl, inl (took, handled.1)),
         refl,
       ),
       λ fine. one_unrecorded s r (g.R.Recorder.found c.args.recorder.now) (g.R.Recorder.found c.record.new.self) (g.R.Recorder.failed c.record.new.self) c.in-Err-record.ensures.err.1
@@ -59,7 +59,7 @@ returns-in-Ok-Kept-clause-told g c = λ clean is_open s at.
     let handled = rw c.in-Ok-Kept.field-0-is at (rw c.as_str.ensures.value at (c.in-Ok-Kept.ensures.handled clean is_open s at)) in (
       1,
       (
-        plain_answer (g.R.Recorder.records c.args.recorder.now) (state g.S.Store c.args.office.now.held) c.handle.new.self.closed (state g.S.Store c.handle.new.self.held)
+        plain_answer (g.R.Recorder.failed c.args.recorder.now) (state g.S.Store c.args.office.now.held) c.handle.new.self.closed (state g.S.Store c.handle.new.self.held)
             (λ t q. page_counted c.args.is_first) s r 1 _
             (inl (refl, ap (page_counted c.args.is_first) handled.0, handled.1)),
         ap (λ (b : Bool). 1 == 1 && not b) (ap tells_no handled.0 ∙ no_is_refused _),
@@ -73,7 +73,7 @@ returns-in-Ok-Refused-clause-told g c = λ clean is_open s at.
     let handled = rw c.in-Ok-Refused.field-0-is at (rw c.as_str.ensures.value at (c.in-Ok-Refused.ensures.handled clean is_open s at)) in (
       1,
       (
-        plain_answer (g.R.Recorder.records c.args.recorder.now) (state g.S.Store c.args.office.now.held) c.handle.new.self.closed (state g.S.Store c.handle.new.self.held)
+        plain_answer (g.R.Recorder.failed c.args.recorder.now) (state g.S.Store c.args.office.now.held) c.handle.new.self.closed (state g.S.Store c.handle.new.self.held)
             (λ t q. page_counted c.args.is_first) s r 1 _
             (inl (refl, c.outcome_of_refused_stage.ensures ∙ ap (page_counted c.args.is_first) handled.0, handled.1)),
         ap (λ (b : Bool). 1 == 1 && not b) (ap tells_no handled.0 ∙ no_is_refused _),
@@ -88,7 +88,7 @@ returns-in-Err-clause-told g c = λ clean is_open s at.
     let cause = rw c.as_str.ensures.value at (c.in-Err.ensures.cause clean is_open s at) in (
       0,
       (
-        plain_answer (g.R.Recorder.records c.args.recorder.now) (state g.S.Store c.args.office.now.held) c.handle.new.self.closed (state g.S.Store c.handle.new.self.held)
+        plain_answer (g.R.Recorder.failed c.args.recorder.now) (state g.S.Store c.args.office.now.held) c.handle.new.self.closed (state g.S.Store c.handle.new.self.held)
             (λ t q. page_counted c.args.is_first) s r 0 _
             (inr (refl, (c.in-Err.fault, refl, (cause, handled)))),
         refl,

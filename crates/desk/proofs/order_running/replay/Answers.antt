@@ -20,7 +20,7 @@ returns-in-Err-clause-ran g c =
       is = λ clean is_open s at. (
         [],
         0,
-        replay_unread (g.R.Recorder.records c.args.recorder.now) (g.F.Folder.held c.args.folder.now) s c.args.asked _ c.open.ensures st c.args.office.now.closed st
+        replay_unread (g.R.Recorder.failed c.args.recorder.now) (g.F.Folder.held c.args.folder.now) s c.args.asked _ c.open.ensures st c.args.office.now.closed st
             (page_of c.in-Err.outcome) told.0 c.in-Err.ensures.unread (record { is_open = is_open; at = at }),
         none_recorded s [] (g.R.Recorder.found c.args.recorder.now) (g.R.Recorder.failed c.args.recorder.now),
       );
@@ -40,7 +40,7 @@ returns-in-Ok-typed_lines-clause-ran g c =
           let it = told.is clean is_open s at in (
             it.0,
             it.1,
-            replay_of (g.R.Recorder.records c.args.recorder.now) (g.F.Folder.held c.args.folder.now) s c.args.asked _ c.open.ensures (state g.S.Store c.args.office.now.held) c.run_script.new.office.closed
+            replay_of (g.R.Recorder.failed c.run_script.new.recorder) (g.F.Folder.held c.args.folder.now) s c.args.asked _ c.open.ensures (state g.S.Store c.args.office.now.held) c.run_script.new.office.closed
                 (state g.S.Store c.run_script.new.office.held) lines left_out _ holds
                 (rw c.deref-in-Ok-typed_lines.ensures.value at it.2),
             it.3,
@@ -60,7 +60,7 @@ returns-clause-ran g c =
       is = λ clean is_open s at. (
         [],
         0,
-        replay_unread (g.R.Recorder.records c.args.recorder.now) (g.F.Folder.held c.args.folder.now) s c.args.asked _ c.open.ensures st c.args.office.now.closed st page told.0
+        replay_unread (g.R.Recorder.failed c.args.recorder.now) (g.F.Folder.held c.args.folder.now) s c.args.asked _ c.open.ensures st c.args.office.now.closed st page told.0
             (inr refl) (record { is_open = is_open; at = at }),
         none_recorded s [] (g.R.Recorder.found c.args.recorder.now) (g.R.Recorder.failed c.args.recorder.now),
       );

@@ -2,7 +2,7 @@
 use Rattle.std.proofs.Common.{◌≡◌, ◌∙◌, ◌<◌, ◌∷◌, [], true, false, length, take, ap, refl, subst, sym, arith}
 use Rattle.sqlite.specs.Held.{state}
 use Rattle.store.proofs.KeepLemmas.{connection_itself, connection_then}
-use Rattle.desk.specs.Headline.{IsPlayedBy, told_above}
+use Rattle.desk.specs.Headline.{told_above}
 use Rattle.desk.specs.Pages.{below, cut_below, uncut, empty_page, goes_on}
 use Rattle.desk.specs.Records.{IsRecordOf}
 use Rattle.desk.proofs.CauseLemmas.{since}
@@ -45,7 +45,7 @@ loop-turn-preserved g c =
         is = λ clean is_open s at.
             let so = so_far.is (c.run-status.ensures.clean clean) is_open s at in
             let it = told.is clean so.0.open_at.is_open so.0.end so.0.open_at.at in
-            let more = turn_more (g.R.Recorder.records c.loop-turn.recorder) first keep (g.F.Folder.held c.args.folder.now) s turns mid i turn so_far.said c.loop-turn.office.closed mid
+            let more = turn_more (g.R.Recorder.failed c.run-status.new.recorder) first keep (g.F.Folder.held c.args.folder.now) s turns mid i turn so_far.said c.loop-turn.office.closed mid
             (made it.0 it.1 told.page told.cut) c.run-status.new.office.closed next within c.turn-item.is so.0 it.2
             (ap (goes_on keep) fine.1 ∙ goes, fine.0) in
             let found = g.R.Recorder.found c.run-status.new.recorder in (
@@ -81,11 +81,11 @@ returns-then-not-goes_on-clause-sent g c =
           let so = so_far.is honest is_open s at in
           let tells = since first mid next honest c.loop-turn.invariant.keeps_connection c.run-status.ensures.keeps_connection in
           let it = told.is clean so.0.open_at.is_open so.0.end so.0.open_at.at in
-          let recorded = g.R.Recorder.records c.args.recorder.now in
+          let recorded = g.R.Recorder.failed c.run-status.new.recorder in
           let folder = g.F.Folder.held c.args.folder.now in
           let closed = c.run-status.new.office.closed in
           let last = made it.0 it.1 told.page told.cut in
-          let played = subst (λ b. IsPlayedBy b mid closed next keep folder so.0.end (turn ∷ []) last) c.loop-turn.invariant.same it.2 in
+          let played = it.2 in
           let worse = shown_stops keep told.cut _ _ told.page c.run-status.result told.shown stops in
           let course = told_above so.0.own so_far.said last in (
             course.requests,
@@ -119,7 +119,7 @@ returns-clause-sent g c =
           let course = told_above so.0.own so_far.said nothing_more in (
             course.requests,
             course.answered,
-            turns_all (g.R.Recorder.records c.args.recorder.now) (state g.S.Store c.args.office.now.held) c.args.keep_going (g.F.Folder.held c.args.folder.now) s c.args.turns.now
+            turns_all (g.R.Recorder.failed c.loop-turn.recorder) (state g.S.Store c.args.office.now.held) c.args.keep_going (g.F.Folder.held c.args.folder.now) s c.args.turns.now
                 c.loop-turn.turn-index so_far.said c.loop-turn.office.closed
                 (state g.S.Store c.loop-turn.office.held) c.loop-turn-test.false so.0,
             λ unfailed.

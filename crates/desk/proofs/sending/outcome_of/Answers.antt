@@ -16,8 +16,8 @@ returns-then-has_failed-clause-told g c = λ clean is_open s at.
     let st = state g.S.Store c.args.office.now.held in
     let broken = sym c.has_failed.ensures.value ∙ c.if-has_failed.true in (
       0,
-      unrecorded_answer (g.R.Recorder.records c.args.recorder.now) st c.args.office.now.closed st page_for s c.args.request.now 0 (failed SecondRecord)
-          (c.has_failed.ensures.recorded broken) (refl, refl, inr (record { is_open = is_open; at = at })),
+      unrecorded_answer (g.R.Recorder.failed c.args.recorder.now) st c.args.office.now.closed st page_for s c.args.request.now 0 (failed SecondRecord)
+          broken (refl, refl, inr (record { is_open = is_open; at = at })),
       λ fine. absurd (true≢false (sym broken ∙ fine)),
     )
 
@@ -26,7 +26,7 @@ returns-in-Ok-clause-told g c = λ clean is_open s at.
     let r = c.args.request.now in
     let handled = rw c.in-Ok-Done.field-0-is at (rw c.as_str.ensures.value at (c.in-Ok-Done.ensures.handled clean is_open s at)) in (
       1,
-      plain_answer (g.R.Recorder.records c.args.recorder.now) (state g.S.Store c.args.office.now.held) c.handle.new.self.closed (state g.S.Store c.handle.new.self.held) page_for s r 1 _
+      plain_answer (g.R.Recorder.failed c.record.new.self) (state g.S.Store c.args.office.now.held) c.handle.new.self.closed (state g.S.Store c.handle.new.self.held) page_for s r 1 _
           (inl (refl, ap (page_for s r) handled.0, handled.1)),
       λ fine. one_recorded s r (g.R.Recorder.found c.args.recorder.now) (g.R.Recorder.found c.record.new.self) (g.R.Recorder.failed c.record.new.self) c.in-Ok.ensures.ok.1
           (done_accepted (step_of s r) _ handled.0) (c.record.ensures.recorded fine),
@@ -38,8 +38,8 @@ returns-in-Err-record-clause-told g c = λ clean is_open s at.
     let handled = rw c.in-Ok-Done.field-0-is at (rw c.as_str.ensures.value at (c.in-Ok-Done.ensures.handled clean is_open s at)) in
     let took = done_accepted (step_of s r) _ handled.0 in (
       0,
-      unrecorded_answer (g.R.Recorder.records c.args.recorder.now) (state g.S.Store c.args.office.now.held) c.handle.new.self.closed (state g.S.Store c.handle.new.self.held) page_for s r 0
-          (failed SecondRecord) c.in-Err-record.ensures.err.0 (refl, refl, inl (took, handled.1)),
+      unrecorded_answer (g.R.Recorder.failed c.record.new.self) (state g.S.Store c.args.office.now.held) c.handle.new.self.closed (state g.S.Store c.handle.new.self.held) page_for s r 0
+          (failed SecondRecord) c.in-Err-record.ensures.err.1 (refl, refl, inl (took, handled.1)),
       λ fine. one_unrecorded s r (g.R.Recorder.found c.args.recorder.now) (g.R.Recorder.found c.record.new.self) (g.R.Recorder.failed c.record.new.self) c.in-Err-record.ensures.err.1
           took (c.record.ensures.recorded fine),
     )
@@ -56,7 +56,7 @@ returns-in-Ok-Kept-clause-told g c = λ clean is_open s at.
     let handled = rw c.in-Ok-Kept.field-0-is at (rw c.as_str.ensures.value at (c.in-Ok-Kept.ensures.handled honest is_open s at)) in
     let tells = since first mid next honest c.in-Ok-Kept.ensures.keeps_connection (reads_connection mid next c.kept_before.ensures.same) in
     let it = answered_before first mid next c.handle.new.self.closed closed s r (string_bytes c.in-Ok-Kept.reply) page tells handled.0 handled.1 (c.kept_before.ensures.found clean) in
-    let recorded = g.R.Recorder.records c.args.recorder.now in
+    let recorded = g.R.Recorder.failed c.args.recorder.now in
     let met = plain_answer recorded first closed next page_for s r it.0 page it.1 in (
       it.0,
       met,
@@ -78,7 +78,7 @@ returns-in-Ok-Refused-clause-told g c = λ clean is_open s at.
     let r = c.args.request.now in
     let handled = rw c.in-Ok-Refused.field-0-is at (rw c.as_str.ensures.value at (c.in-Ok-Refused.ensures.handled clean is_open s at)) in (
       1,
-      plain_answer (g.R.Recorder.records c.args.recorder.now) (state g.S.Store c.args.office.now.held) c.handle.new.self.closed (state g.S.Store c.handle.new.self.held) page_for s r 1 _
+      plain_answer (g.R.Recorder.failed c.args.recorder.now) (state g.S.Store c.args.office.now.held) c.handle.new.self.closed (state g.S.Store c.handle.new.self.held) page_for s r 1 _
           (inl (refl, ap (page_for s r) handled.0, handled.1)),
       λ fine. still_recorded s r 1 (g.R.Recorder.found c.args.recorder.now) (g.R.Recorder.failed c.args.recorder.now) (omega arith) fine (refused_stays s (step_of s r) _ handled.0),
     )
@@ -89,7 +89,7 @@ returns-in-Err-clause-told g c = λ clean is_open s at.
     let handled = rw c.as_str.ensures.value at (c.in-Err.ensures.handled clean is_open s at) in
     let cause = rw c.as_str.ensures.value at (c.in-Err.ensures.cause clean is_open s at) in (
       0,
-      plain_answer (g.R.Recorder.records c.args.recorder.now) (state g.S.Store c.args.office.now.held) c.handle.new.self.closed (state g.S.Store c.handle.new.self.held) page_for s r 0 _
+      plain_answer (g.R.Recorder.failed c.args.recorder.now) (state g.S.Store c.args.office.now.held) c.handle.new.self.closed (state g.S.Store c.handle.new.self.held) page_for s r 0 _
           (inr (refl, (c.in-Err.fault, refl, (cause, handled)))),
       λ fine. none_recorded s (r ∷ []) (g.R.Recorder.found c.args.recorder.now) (g.R.Recorder.failed c.args.recorder.now) fine,
     )

@@ -2,7 +2,7 @@
 use Rattle.std.proofs.Common.{◌≡◌, ◌∙◌, ◌<◌, ◌+◌, ◌∷◌, [], true, false, drop, take, length, ap, refl, subst, sym, arith}
 use Rattle.sqlite.specs.Held.{state}
 use Rattle.store.proofs.KeepLemmas.{connection_itself, connection_then}
-use Rattle.desk.specs.Headline.{IsAnsweredBy, ended, told_above}
+use Rattle.desk.specs.Headline.{ended, told_above}
 use Rattle.desk.specs.Pages.{below, cut_below, uncut, empty_page, fronted, goes_on, page_of, page_for}
 use Rattle.desk.specs.Records.{IsRecordOf}
 use Rattle.desk.proofs.CauseLemmas.{since}
@@ -46,7 +46,7 @@ loop-request-preserved g c =
         is = λ clean is_open s at.
             let so = so_far.is (c.outcome_of.ensures.clean clean) is_open s at in
             let it = c.outcome_of.ensures.told clean so.0.open_at.is_open so.0.end so.0.open_at.at in
-            let more = sent_more (g.R.Recorder.records c.loop-request.recorder) first keep line page_for s rs mid i c.request-item.result so_far.said c.loop-request.office.closed mid page it.0
+            let more = sent_more (g.R.Recorder.failed c.outcome_of.new.recorder) first keep line page_for s rs mid i c.request-item.result so_far.said c.loop-request.office.closed mid page it.0
             c.outcome_of.new.office.closed next within c.request-item.is so.0 it.1
             (ap (goes_on keep) fine.1 ∙ goes) in
             let found = g.R.Recorder.found c.outcome_of.new.recorder in (
@@ -85,8 +85,8 @@ returns-then-not-goes_on-clause-sent g c =
           let so = so_far.is honest is_open s at in
           let tells = since first mid next honest c.loop-request.invariant.keeps_connection c.outcome_of.ensures.keeps_connection in
           let it = c.outcome_of.ensures.told clean so.0.open_at.is_open so.0.end so.0.open_at.at in
-          let recorded = g.R.Recorder.records c.args.recorder.now in
-          let met = subst (λ b. IsAnsweredBy mid closed next b page_for so.0.end r it.0 page) c.loop-request.invariant.same it.1 in
+          let recorded = g.R.Recorder.failed c.outcome_of.new.recorder in
+          let met = it.1 in
           let here = answered_since recorded first mid closed next page_for so.0.end r it.0 page tells met in
           let course = told_above (take i rs) so_far.said (ended line (r ∷ drop (i + 1) rs) it.0 page told.0) in (
             course.requests,
@@ -121,7 +121,7 @@ returns-clause-sent g c =
           let course = told_above (take i rs) so_far.said nothing_more in (
             course.requests,
             course.answered,
-            sent_all (g.R.Recorder.records c.args.recorder.now) (state g.S.Store c.args.office.now.held) c.args.keep_going c.args.line page_for s rs i so_far.said c.loop-request.office.closed
+            sent_all (g.R.Recorder.failed c.loop-request.recorder) (state g.S.Store c.args.office.now.held) c.args.keep_going c.args.line page_for s rs i so_far.said c.loop-request.office.closed
                 (state g.S.Store c.loop-request.office.held) c.loop-request-test.false so.0,
             λ unfailed.
                 let before = so.1 unfailed in

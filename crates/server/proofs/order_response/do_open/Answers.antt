@@ -1,5 +1,5 @@
 -- Proof that `do_open` meets its contract.
-use Rattle.std.proofs.Common.{refl}
+use Rattle.std.proofs.Common.{◌∙◌, refl, sym}
 use Rattle.desk.specs.Pages.{failed}
 use Rattle.desk.proofs.PageLemmas.{error_shown}
 use Rattle.server.proofs.order_response.do_open.Goals as goal
@@ -8,17 +8,31 @@ pub returns-in-Refused-clause-did : goal.returns-in-Refused-clause-did
 returns-in-Refused-clause-did g c =
     let shows = error_shown g.O.Sink.taken g.O.Sink.failed g.E.Sink.taken g.E.Sink.failed c.args.out.now c.args.err.now c.tell_failure.new.err
     (failed c.in-Refused.failure) c.tell_failure.result refl c.tell_failure.ensures in
-    record { page = failed c.in-Refused.failure; cut = shows.0; shown = shows.1; is = λ clean is_open s at. rw c.in-Refused.is (refl, record { is_open = is_open; at = at }) }
+    record { page = failed c.in-Refused.failure; cut = shows.0; shown = shows.1; is = λ clean is_open s at. rw c.in-Refused.is (refl, record { is_open = is_open; at = at }, refl) }
 
 pub returns-in-Journal-clause-did : goal.returns-in-Journal-clause-did
 returns-in-Journal-clause-did g c =
     let told = c.journal.ensures.told in
-    record { page = told.page; cut = told.cut; shown = told.shown; is = λ clean is_open s at. rw c.in-Journal.is (told.is clean is_open s at, c.journal.ensures.stays clean is_open s at) }
+    record { page = told.page; cut = told.cut; shown = told.shown; is = λ clean is_open s at. rw c.in-Journal.is (told.is clean is_open s at, c.journal.ensures.stays clean is_open s at, refl) }
 
 pub returns-in-Mend-clause-did : goal.returns-in-Mend-clause-did
 returns-in-Mend-clause-did g c =
     let told = c.mend_for_order.ensures.told in
-    record { page = told.page; cut = told.cut; shown = told.shown; is = λ clean is_open s at. rw c.in-Mend.is (told.is clean is_open s at) }
+    record { page = told.page; cut = told.cut; shown = told.shown; is = λ clean is_open s at. let it = told.is clean is_open s at in rw c.in-Mend.is (it.0, it.1, refl) }
+
+pub returns-in-Copy-clause-did : goal.returns-in-Copy-clause-did
+returns-in-Copy-clause-did g c =
+    let told = c.copy_for_order.ensures.told in
+    record { page = told.page; cut = told.cut; shown = told.shown; is = λ clean is_open s at. let it = told.is clean is_open s at in rw c.in-Copy.is (it.0, it.1, refl) }
+
+pub returns-in-Do-clause-did : goal.returns-in-Do-clause-did
+returns-in-Do-clause-did g c =
+    let told = c.follow_recorded-status.ensures.did in
+    record { page = told.page; cut = told.cut; shown = told.shown; is = λ clean is_open s at. rw c.in-Do.is (told.is clean is_open s at) }
+
+-- a record that failed is there
+pub returns-in-Do-clause-fails : goal.returns-in-Do-clause-fails
+returns-in-Do-clause-fails g c = λ had has. sym c.follow_recorded-status.ensures.same ∙ c.has_failed.ensures.recorded has
 
 -- a copy and a new office are made in the file that the order's path means, or in none
 pub returns-in-Copy-clause-ended : goal.returns-in-Copy-clause-ended

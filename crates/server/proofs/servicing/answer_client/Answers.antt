@@ -6,7 +6,8 @@ use Rattle.wire.specs.Gates.{settings_entry, authentication_entry}
 use Rattle.codes.specs.RateLimits.{limit_entry}
 use Rattle.server.specs.Reads.{served_office, memory_entry, must_wait, limit_after}
 use Rattle.server.specs.Exchanges.{Exchange}
-use Rattle.server.specs.Settings.{settings_in}
+use Rattle.server.specs.RecordChanges.{served_view}
+use Rattle.server.specs.Settings.{settings_by}
 use Rattle.server.proofs.ConsoleLemmas.{noted_asked}
 use Rattle.server.proofs.servicing.answer_client.Goals as goal
 
@@ -37,8 +38,8 @@ returns-clause-meets g c = λ number.
       authentication = authentication;
       is = c.authentication-authentication.ensures (settings_entry c.args.server_settings.http) c.args.due.got.now c.requires;
       free = sym {b = must_wait authentication c.args.due.moment (limit_entry c.args.kept.now.limit)} c.must_wait.ensures ∙ c.if-must_wait.false;
-      serves = noted_asked (settings_in g.A.ServedFile.whole c.args.server_settings) (state g.S.Store) (served_office c.args.office.now (memory_entry c.args.kept.now)) exchange answered.new.office
+      serves = noted_asked (settings_by g.A.ServedFile.whole (g.R.Recorder.records c.args.kept.now.recorder) c.args.server_settings) (served_view (state g.S.Store) g.R.Recorder.found g.R.Recorder.failed) (served_office c.args.office.now (memory_entry c.args.kept.now)) exchange answered.new.office
           (memory_entry answered.new.kept)
-          (memory_entry c.count_if_wrong.new.self) c.count_if_wrong.ensures.reads (answered.ensures.served number c.args.due.moment);
+          (memory_entry c.count_if_wrong.new.self) c.count_if_wrong.ensures.reads c.count_if_wrong.ensures.recorder (answered.ensures.served number c.args.due.moment);
       noted = c.count_if_wrong.ensures.limit ∙ ap (limit_after authentication c.args.due.moment) answered.ensures.limit;
     })

@@ -7,7 +7,8 @@ use Rattle.connections.specs.declared.client.Listener.TheVariants.{Clients}
 use Rattle.wire.specs.Gates.{settings_entry}
 use Rattle.wire.specs.Parsing.{IsParsed}
 use Rattle.server.specs.Reads.{served_office, memory_entry}
-use Rattle.server.specs.Settings.{settings_in}
+use Rattle.server.specs.RecordChanges.{served_view}
+use Rattle.server.specs.Settings.{settings_by}
 use Rattle.server.specs.Servicing.{HasComeAt}
 use Rattle.server.specs.Exchanges.{RespondsToClient}
 use Rattle.server.proofs.AnswerLemmas.{told_zero}
@@ -17,8 +18,8 @@ use Rattle.server.proofs.servicing.service.Goals as goal
 -- it has its response already, and gets more of it
 pub returns-then-is_some-clause-turn : goal.returns-then-is_some-clause-turn
 returns-then-is_some-clause-turn g c =
-    attends_none (stream_of g.L.Stream.held g.L.Stream.taken g.L.Stream.failed) (settings_in g.A.ServedFile.whole c.args.server_settings)
-    (state g.S.Store) c.args.now c.send_more-told.result c.args.client c.send_more-told.new.client
+    attends_none (stream_of g.L.Stream.held g.L.Stream.taken g.L.Stream.failed) (settings_by g.A.ServedFile.whole (g.R.Recorder.records c.args.kept.now.recorder) c.args.server_settings)
+    (served_view (state g.S.Store) g.R.Recorder.found g.R.Recorder.failed) c.args.now c.send_more-told.result c.args.client c.send_more-told.new.client
     (served_office c.args.office.now (memory_entry c.args.kept.now)) (served_office c.args.office.now (memory_entry c.args.kept.now)) c.send_more-told.ensures.apart refl
     c.send_more-told.ensures.belongs
 
@@ -48,7 +49,7 @@ returns-in-Ok-Some-clause-is g c = λ start own. c.begin_answer.ensures.is start
 pub returns-in-Ok-Some-clause-turn : goal.returns-in-Ok-Some-clause-turn
 returns-in-Ok-Some-clause-turn g c =
     let received = c.in-Ok-Some.ensures in
-    let settings = settings_in g.A.ServedFile.whole c.args.server_settings in
+    let settings = settings_by g.A.ServedFile.whole (g.R.Recorder.records c.args.kept.now.recorder) c.args.server_settings in
     let stream = stream_of g.L.Stream.held g.L.Stream.taken g.L.Stream.failed in
     let mid = c.receive_request.new.client in
     let answered = c.answer_client-answer in
@@ -56,15 +57,15 @@ returns-in-Ok-Some-clause-turn g c =
     let at = served_office c.args.office.now (memory_entry c.args.kept.now) in
     let behind = served_office answered.new.office (memory_entry answered.new.kept) in
     let none = none_from c.args.client.answer (sym c.is_some.ensures ∙ c.if-is_some.false) in
-    attends_turn stream settings (state g.S.Store) c.args.now c.begin_answer.result.1 c.args.client new at behind c.begin_answer.ensures.apart
-    (has_turn stream settings (state g.S.Store) c.args.now c.args.client mid new at behind none received.receives received.same.0.0 received.same.0.1
+    attends_turn stream settings (served_view (state g.S.Store) g.R.Recorder.found g.R.Recorder.failed) c.args.now c.begin_answer.result.1 c.args.client new at behind c.begin_answer.ensures.apart
+    (has_turn stream settings (served_view (state g.S.Store) g.R.Recorder.found g.R.Recorder.failed) c.args.now c.args.client mid new at behind none received.receives received.same.0.0 received.same.0.1
     (subst (λ (d : Listener). HasComeAt d settings (g.L.Stream.held mid.stream) mid.got.items) (sym c.in-Clients.is) (rw c.in-Ok-Some.field-0-is at received.come).0) (
       record { listener = Clients; number = mid.number; moment = c.args.now; got = mid.got.items; answer = answered.result.bytes.items },
       sym (received.same.0.0 ∙ c.in-Clients.is),
       refl,
       refl,
       refl,
-      subst (λ (xs : List ℕ). RespondsToClient settings (state g.S.Store) at
+      subst (λ (xs : List ℕ). RespondsToClient settings (served_view (state g.S.Store) g.R.Recorder.found g.R.Recorder.failed) at
           (record { listener = Clients; number = mid.number; moment = c.args.now; got = xs; answer = answered.result.bytes.items }) behind) c.as_slice-got.ensures.value
           (answered.ensures.meets mid.number),
       c.begin_answer.ensures.belongs,
