@@ -16,9 +16,8 @@
 //! ```
 #![tactic(auto)]
 
-ghost use Rattle.std.specs.Prelude.{◌≡◌, ◌+◌, ◌-◌, ◌^◌, ◌<◌, IfSome, None, Some};
+ghost use Rattle.std.specs.Prelude.{◌≡◌, ◌+◌, ◌-◌, ◌^◌, ◌<◌, ℕ, List, IfSome, None, Some};
 ghost use Rattle.std.specs.Borrow.{Bor};
-ghost use Rattle.clap.specs.Words.{Text};
 ghost use Rattle.sqlite.specs.Effect.{Database};
 ghost use Rattle.sqlite.specs.Held.{state};
 ghost use Rattle.sqlite.specs.State.{HasCleanDisk};
@@ -208,7 +207,7 @@ fn dispatch_order<H: Host, S: Alter, O: Sink, E: Sink>(
     ensures mends { (asked : MendOrder) → order.now ≡ Order.Mend asked → (let outputs = outputs_of O.taken O.failed E.taken E.failed in
         Tells (outputs out.old err.old) (outputs out.new err.new) result.0 (λ _ page. HasCleanDisk (state S.Store result.1) → (db : Database) → RestsAt db (state S.Store conn)
         → (s : OfficeState) → IsLeftAt s db → IsMendPage s asked page)) }
-    ensures seconds { (path : Bor Text) → order.now ≡ Order.Second path → (let outputs = outputs_of O.taken O.failed E.taken E.failed in
+    ensures seconds { (path : Bor (List ℕ)) → order.now ≡ Order.Second path → (let outputs = outputs_of O.taken O.failed E.taken E.failed in
         Tells (outputs out.old err.old) (outputs out.new err.new) result.0 (λ _ page. HasCleanDisk (state S.Store result.1) → (db : Database) → RestsAt db (state S.Store conn)
         → (s : OfficeState) → IsLeftAt s db → IsSecondPage s path.now page)) }
     ensures serves { (serving : Serving) → order.now ≡ Order.Serve serving.port serving.connections serving.origin serving.codes serving.public

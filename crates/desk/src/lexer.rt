@@ -2,7 +2,8 @@
 
 ghost use Rattle.std.specs.Prelude.{◌≡◌, [], IfOk, OnOk, map, option_map};
 ghost use Rattle.desk.specs.Lexing.{lexer_entry};
-ghost use Rattle.desk.specs.Scripts.{behind_byte_order_mark, cut_byte, cut_open, is_blank, is_quote, lines_of, moved_to, part_read, passes_over, whole_lines, with_byte, with_word, words_cut, words_of};
+ghost use Rattle.desk.specs.Scripts.{behind_byte_order_mark, cut_byte, cut_open, is_blank, is_quote, lines_of, moved_to, part_read, passes_over, whole_lines};
+ghost use Rattle.desk.specs.Scripts.{with_byte, with_word, words_cut, words_of};
 
 use std::alloc::{AllocError, Global};
 use std::mem;

@@ -4,7 +4,8 @@ ghost use Rattle.std.specs.Prelude.{◌≡◌, ◌⊎◌, ◌-◌, ◌^◌, ◌<
 ghost use Rattle.std.specs.List.{flat_map};
 ghost use Rattle.keyfile.specs.Faults.{flaw_batch, flaw_between, flaw_clerk};
 ghost use Rattle.desk.specs.Pages.{IsErrorTold, IsPut, Shows, fronted, line_front, migrated_text, note_line, noted, numbered_line, outputs_of, printed, status_of_file};
-ghost use Rattle.desk.specs.Pages.{cut_note, failed, failure_number, failure_of, failure_text, no_form_text, page_of, refused, script_page, unformed, unjournalled, unmended, unread, unsealed, words_page};
+ghost use Rattle.desk.specs.Pages.{cut_note, failed, failure_number, failure_of, failure_text, no_form_text, page_of, refused, script_page};
+ghost use Rattle.desk.specs.Pages.{unformed, unjournalled, unmended, unread, unsealed, words_page};
 
 pub use crate::codes_lines::{
     tell_codes_and_office_made, tell_codes_fault, tell_codes_made, tell_slips,

@@ -18,7 +18,8 @@ ghost use Rattle.desk.specs.Journals.{AreSent, IsScriptOf};
 ghost use Rattle.desk.specs.Mends.{StaysReadAt, out_of_memory};
 ghost use Rattle.desk.specs.Pages.{IsErrorTold, Tells, outputs_of, page_of, printed, unequal, unjournalled};
 ghost use Rattle.desk.specs.Scripts.{whole_lines};
-ghost use Rattle.desk.specs.Seconds.{HasUngiven, IsCompared, IsDifference, IsNoRecord, IsSecondTold, IsTextTold, apart_text, first_ungiven, has_name, is_given, more_here_text, more_there_text, record_page, request_words, same_text, sender_words};
+ghost use Rattle.desk.specs.Seconds.{HasUngiven, IsCompared, IsDifference, IsNoRecord, IsSecondTold, IsTextTold};
+ghost use Rattle.desk.specs.Seconds.{apart_text, first_ungiven, has_name, is_given, more_here_text, more_there_text, record_page, request_words, same_text, sender_words};
 
 use crate::folders::Folder;
 use crate::journal_check::{Draft, draft_of, requests_of};
@@ -434,9 +435,10 @@ fn second_in<S: Alter, T: Alter, O: Sink, E: Sink>(
 /// connections of the trial, which aren't closed.
 ///
 /// The whole lines of the file are parsed as a script of requests, and replayed in the first database of the trial. If they lead to
-/// exactly the state of the office, the status is 0. Otherwise it is 1, and the line says which of the two has one request more, and
-/// which request that is: if the office has more of them, the one in its journal that isn't in the record; otherwise the last one of the
-/// record. This is checked by replaying in the second database. If neither is so, the line has both numbers of requests.
+/// exactly the state of the office, the status is 0. Otherwise it is 1. If one of the two has one request more, the line says which, and
+/// shows that request. It is looked for in the office's journal if the office has more of them, and is the last one of the record
+/// otherwise; it is shown only if the requests with it, or without it, lead to the office in the second database. If they don't, the line
+/// has both numbers of requests.
 ///
 /// If a line of the file isn't understood, or its order is none that sends one given request, this is reported with its number and status
 /// 2. A file that can't be read, and a fault, are reported with status 3. The office is only read, whatever the outcome.

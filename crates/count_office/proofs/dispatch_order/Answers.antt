@@ -1,7 +1,6 @@
 -- Proof that `dispatch_order` meets its contract for the order to serve, whose words are those of the serving, for the order to mend, and for the order to compare.
-use Rattle.std.proofs.Common.{◌≡◌, ◌∙◌, ap, refl, subst, sym}
+use Rattle.std.proofs.Common.{◌≡◌, ◌∙◌, ℕ, List, ap, refl, subst, sym}
 use Rattle.std.specs.Borrow.{Bor}
-use Rattle.clap.specs.Words.{Text}
 use Rattle.sqlite.specs.Effect.{Database}
 use Rattle.sqlite.specs.Held.{state}
 use Rattle.sqlite.specs.State.{HasCleanDisk}
@@ -51,6 +50,6 @@ returns-in-Mend-clause-mends g c = λ asked is.
 pub returns-in-Second-clause-seconds : goal.returns-in-Second-clause-seconds
 returns-in-Second-clause-seconds g c = λ path is.
     let outputs = outputs_of g.O.Sink.taken g.O.Sink.failed g.E.Sink.taken g.E.Sink.failed in
-    subst (λ (p : Bor Text). Tells (outputs c.args.out.now c.args.err.now) (outputs c.second.new.out c.second.new.err) c.second.result.0
+    subst (λ (p : Bor (List ℕ)). Tells (outputs c.args.out.now c.args.err.now) (outputs c.second.new.out c.second.new.err) c.second.result.0
     (λ _ page. HasCleanDisk (state g.S.Store c.second.result.1) → (db : Database) → RestsAt db (state g.S.Store c.args.conn) → (s : OfficeState) → IsLeftAt s db → IsSecondPage s p.now page))
     (cc) c.second.ensures.told
