@@ -1,12 +1,11 @@
 -- The machine decides a request by its content: two requests that ask for the same are decided alike, even if their texts are stored in different places.
-use Rattle.std.proofs.Common.{◌≡◌, ◌∙◌, ◌∷◌, [], ◌++◌, codes, ℕ, List, Option, Some, None, map, refl, sym, ap, arith, string_bytes}
+use Rattle.std.proofs.Common.{◌≡◌, ◌∙◌, [], ◌++◌, codes, ℕ, List, Option, Some, None, refl, sym, ap, arith, string_bytes}
 use Rattle.std.specs.Prelude.{if◌then◌else◌}
 use Rattle.std.specs.Fmt.{decimal}
 use Rattle.std.specs.Str.{bytes_eq}
 use Rattle.std.specs.declared.alloc.Global.{Global}
 use Rattle.std.specs.declared.string.String.{String}
 use Rattle.register.specs.CommandInputs.{CommandInputEntries}
-use Rattle.register.specs.Effects.{EffectEntry}
 use Rattle.register.specs.Keyings.{texts_of}
 use Rattle.register.specs.Marks.{columns_of, is_valid, marks_objection}
 use Rattle.register.specs.Machine.{Ruling, answered, decided, effect_of, judged, keeps, objections, outcome_at, part_of, refuses, reply_to, ruling_at, step, step_of, subject_of}

@@ -1,5 +1,5 @@
 -- The state in which an order leaves an office open, which is the one after the answered requests.
-use Rattle.std.proofs.Common.{◌≡◌, ◌≤◌, ◌+◌, ◌∙◌, inl, inr, ℕ, Bool, false, List, [], ◌∷◌, ◌++◌, Option, None, add-one, ap, arith, drop, length, sym, subst, take, true≢false}
+use Rattle.std.proofs.Common.{◌≡◌, ◌≤◌, ◌+◌, ◌∙◌, inl, inr, ℕ, Bool, false, true, List, [], ◌∷◌, ◌++◌, Option, None, add-one, ap, arith, drop, length, sym, subst, take, true≢false}
 use Rattle.std.proofs.Math.Seq.{take-add}
 use Rattle.std.proofs.lemmas.List.{length-append, length-drop, length-take, length-take-le, take-take}
 use Rattle.sqlite.specs.State.{State}

@@ -1,5 +1,5 @@
 -- The second record while requests are sent one after another.
-use Rattle.std.proofs.Common.{◌≡◌, ◌⊎◌, ◌∙◌, ◌≤◌, ◌+◌, inl, inr, ℕ, zero, suc, Bool, true, false, true≢false, List, [], ◌∷◌, ◌++◌, length, take, refl, sym, ap, subst, arith}
+use Rattle.std.proofs.Common.{◌≡◌, ◌⊎◌, ◌∙◌, ◌≤◌, ◌+◌, inl, inr, ℕ, zero, suc, Bool, true, false, true≢false, List, [], ◌∷◌, ◌++◌, length, take, refl, sym, ap, arith}
 use Rattle.std.proofs.Math.Seq.{take-append-add}
 use Rattle.std.proofs.lemmas.List.{length-append, take-append-le, take_all}
 use Rattle.std.proofs.lemmas.List.Sums.{fold-append}
@@ -9,7 +9,7 @@ use Rattle.register.specs.Offices.{OfficeState}
 use Rattle.register.specs.declared.command.Request.{Request}
 use Rattle.register.specs.declared.refusal.Reason.{Reason}
 use Rattle.office.specs.Answers.{done, again, no, told_of}
-use Rattle.desk.specs.Records.{IsAfterAnswered, IsRecordOf, IsRecorded, LeavesRecord, Records}
+use Rattle.desk.specs.Records.{IsAfterAnswered, IsRecordOf, IsRecorded, Records}
 
 -- ---- what the machine answers
 

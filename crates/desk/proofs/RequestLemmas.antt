@@ -1,5 +1,5 @@
 -- The line of a request, parsed again.
-use Rattle.std.proofs.Common.{◌≡◌, ◌∙◌, ◌&&◌, Bool, true, false, List, [], ◌∷◌, get_or, length, refl, subst, arith, sym}
+use Rattle.std.proofs.Common.{◌≡◌, ◌&&◌, Bool, true, List, [], ◌∷◌, get_or, length, subst, arith}
 use Rattle.std.proofs.lemmas.Bool.{and_parts}
 use Rattle.clap.specs.Words.{Text}
 use Rattle.register.specs.declared.command.Request.{Request}

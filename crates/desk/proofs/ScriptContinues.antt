@@ -1,6 +1,6 @@
 -- A script that goes on: whole lines, and another whole line appended to them.
 use Rattle.std.proofs.Common.{◌≡◌, ◌⊎◌, ◌∙◌, ◌==◌, ◌&&◌, ◌≤◌, inl, inr, ℕ, suc, Bool, true, false, List, [], ◌∷◌, ◌++◌, Some, length, map, take, drop, refl, sym, ap, ap₂, arith, subst, eqb-true, leb, leb-true, leb-false}
-use Rattle.std.specs.Prelude.{if◌then◌else◌, ◌||◌}
+use Rattle.std.specs.Prelude.{◌||◌}
 use Rattle.std.specs.List.{list_any}
 use Rattle.std.proofs.lemmas.List.{append-nil, append_assoc, map-append, take-append-drop, take-append-le, take_all, length-append}
 use Rattle.std.proofs.lemmas.List.Folds.{list_any-append}
@@ -111,6 +111,7 @@ none_in_front k t none = by (list_any (λ byte. byte == 10) (take k t)) refl
   where
     both : (list_any (λ byte. byte == 10) (take k t) || list_any (λ byte. byte == 10) (drop k t)) ≡ false
     both = sym (list_any-append (λ byte. byte == 10) (take k t) (drop k t)) ∙ ap (list_any (λ byte. byte == 10)) (take-append-drop k t) ∙ none
+
     by : (e : Bool) → list_any (λ byte. byte == 10) (take k t) ≡ e → list_any (λ byte. byte == 10) (take k t) ≡ false
     by true e = absurd (let bad : true ≡ false = rw e at both in cc bad)
     by false e = e
@@ -158,9 +159,11 @@ renumbered k m (line ∷ lines) turns are = by (renumbered (suc k) (suc m) lines
     by goes false e =
         let it = rw e at are in
         let rest = goes it.1 it.4 in
-        let other : ScriptStep = record { line = Some m; errand = it.0.errand } in
-        (other ∷ rest.0, rw e (other, rest.0, refl, record { line_number = refl; means = it.3.means }, rest.1),
-        ap (λ (es : List Errand). it.0.errand ∷ es) rest.2 ∙ sym (ap (map (λ (t : ScriptStep). t.errand)) it.2))
+        let other : ScriptStep = record { line = Some m; errand = it.0.errand } in (
+          other ∷ rest.0,
+          rw e (other, rest.0, refl, record { line_number = refl; means = it.3.means }, rest.1),
+          ap (λ (es : List Errand). it.0.errand ∷ es) rest.2 ∙ sym (ap (map (λ (t : ScriptStep). t.errand)) it.2),
+        )
 
 -- the requests that follow those of a script
 sent_append : (turns others : List ScriptStep) (requests more : List Request) → AreSent turns requests → AreSent others more → AreSent (turns ++ others) (requests ++ more)
@@ -200,6 +203,7 @@ script_continues text line requests more whole one script also =
     nothing none =
         let empty : script.turns ≡ [] = subst (λ (t : Text). AreTurns (script_lines t) script.turns) none script.script in
         rw (none, no_requests script.turns requests empty script.sends) also
+
     something : (front : Text) → text ≡ front ++ 10 ∷ [] → IsScriptOf (text ++ line) (requests ++ more)
     something front is =
         let lines = lines_of front in

@@ -1,9 +1,8 @@
 -- What a stop leaves of a record to which the entry of a request was appended.
-use Rattle.std.proofs.Common.{◌≡◌, ◌⊎◌, ◌∙◌, ◌≤◌, ◌-◌, inl, inr, ℕ, zero, suc, Bool, true, false, List, [], ◌∷◌, ◌++◌, Option, Some, None, IfSome, Result, Ok, Err, fold, length, take, refl, sym, ap, arith, subst, leb, leb-true, leb-false}
+use Rattle.std.proofs.Common.{◌≡◌, ◌⊎◌, ◌∙◌, ◌≤◌, ◌-◌, inl, inr, ℕ, zero, suc, Bool, true, false, List, [], ◌∷◌, ◌++◌, Option, Some, None, IfSome, Result, Ok, Err, length, take, refl, sym, ap, arith, subst, leb, leb-true, leb-false}
 use Rattle.std.specs.Prelude.{◌&&◌, OnErr}
-use Rattle.std.specs.List.{list_all}
 use Rattle.std.proofs.lemmas.List.{append-nil, append_assoc, take-append-le, take_all}
-use Rattle.register.specs.Machine.{Outcome, after, after_one, is_accepted, state_after, step_of}
+use Rattle.register.specs.Machine.{after, after_one, is_accepted, state_after, step_of}
 use Rattle.register.specs.Offices.{OfficeState, empty_office}
 use Rattle.register.specs.declared.command.Request.{Request}
 use Rattle.clap.specs.Words.{Text}
@@ -11,7 +10,7 @@ use Rattle.office.specs.Runs.{LeadTo, are_accepted}
 use Rattle.desk.specs.Journals.{IsJournalOf, IsScriptOf}
 use Rattle.desk.specs.Records.{Appended, AppendsAll, AppendsSome, FlushesAll, IsLeftOf, IsRecordOf, Leaves, LeavesRecord, Records}
 use Rattle.desk.specs.Scripts.{whole_lines}
-use Rattle.desk.specs.RequestLines.{IsComment, IsEntryOf, IsLineOf, IsWholeLine}
+use Rattle.desk.specs.RequestLines.{IsComment, IsEntryOf, IsLineOf}
 use Rattle.desk.specs.ScriptRecords.{PutsAll}
 use Rattle.desk.proofs.ContentLemmas.{same_step}
 use Rattle.desk.proofs.ScriptContinues.{script_continues, whole_cut, whole_with}
@@ -47,9 +46,11 @@ journal_with_line : (s : OfficeState) (text line : Text) (request : Request) →
     → IsJournalOf (after_one s request) (text ++ line)
 journal_with_line s text line request whole (requests, script, lead) it accepted =
     let step : step_of s it.said ≡ step_of s request = same_step s it.said request it.same in
-    let next : LeadTo (requests ++ it.said ∷ []) (after_one s it.said) = lead_more s requests it.said lead (ap is_accepted step ∙ accepted) in
-    (requests ++ it.said ∷ [], script_continues text line requests (it.said ∷ []) whole it.whole script it.script,
-    subst (λ (x : OfficeState). LeadTo (requests ++ it.said ∷ []) x) (ap (state_after s) step) next)
+    let next : LeadTo (requests ++ it.said ∷ []) (after_one s it.said) = lead_more s requests it.said lead (ap is_accepted step ∙ accepted) in (
+      requests ++ it.said ∷ [],
+      script_continues text line requests (it.said ∷ []) whole it.whole script it.script,
+      subst (λ (x : OfficeState). LeadTo (requests ++ it.said ∷ []) x) (ap (state_after s) step) next,
+    )
 
 -- a journal of whole lines, and a comment
 journal_with_comment : (s : OfficeState) (text comment : Text) → whole_lines text ≡ text → IsJournalOf s text → IsComment comment
@@ -57,18 +58,20 @@ journal_with_comment : (s : OfficeState) (text comment : Text) → whole_lines t
 journal_with_comment s text comment whole journal (inl none) =
     let same : text ++ comment ≡ text = ap (λ (t : Text). text ++ t) none ∙ append-nil text in
     (ap whole_lines same ∙ whole ∙ sym same, subst (IsJournalOf s) (sym same) journal)
-journal_with_comment s text comment whole (requests, script, lead) (inr (one, nothing)) =
-    (whole_with text comment whole one,
-    (requests, subst (IsScriptOf (text ++ comment)) (append-nil requests) (script_continues text comment requests [] whole one script nothing), lead))
+journal_with_comment s text comment whole (requests, script, lead) (inr (one, nothing)) = (
+  whole_with text comment whole one,
+  (requests, subst (IsScriptOf (text ++ comment)) (append-nil requests) (script_continues text comment requests [] whole one script nothing), lead),
+)
 
 -- whole lines and an entry are whole lines, and a journal of the state after the request
 entry_whole : (s : OfficeState) (text entry : Text) (request : Request) → whole_lines text ≡ text → IsJournalOf s text → IsEntryOf entry request → is_accepted (step_of s request) ≡ true
     → (whole_lines (text ++ entry) ≡ text ++ entry) × IsJournalOf (after_one s request) (text ++ entry)
 entry_whole s text entry request whole journal it accepted =
     let front = journal_with_comment s text it.comment whole journal it.skipped in
-    let same : (text ++ it.comment) ++ it.line ≡ text ++ entry = append_assoc text it.comment it.line ∙ ap (λ (t : Text). text ++ t) (sym it.is) in
-    (ap whole_lines (sym same) ∙ whole_with (text ++ it.comment) it.line front.0 it.sends.whole ∙ same,
-    subst (IsJournalOf (after_one s request)) same (journal_with_line s (text ++ it.comment) it.line request front.0 front.1 it.sends accepted))
+    let same : (text ++ it.comment) ++ it.line ≡ text ++ entry = append_assoc text it.comment it.line ∙ ap (λ (t : Text). text ++ t) (sym it.is) in (
+      ap whole_lines (sym same) ∙ whole_with (text ++ it.comment) it.line front.0 it.sends.whole ∙ same,
+      subst (IsJournalOf (after_one s request)) same (journal_with_line s (text ++ it.comment) it.line request front.0 front.1 it.sends accepted),
+    )
 
 -- the states to which a record may lead while a request is recorded
 abbrev IsBeforeOrAfter : OfficeState → Request → OfficeState → Type 0
@@ -99,10 +102,12 @@ line_cut : (s : OfficeState) (text line : Text) (request : Request) (k : ℕ) �
 line_cut s text line request k whole journal it accepted =
     elim (whole_cut text line k whole it.whole) [
       | inl cut ↦ still s request (text ++ take k line) text cut journal
-      | inr all ↦
-          (after_one s request, inr refl,
-          subst (IsJournalOf (after_one s request)) (sym (ap (λ (t : Text). whole_lines (text ++ t)) all ∙ whole_with text line whole it.whole))
-          (journal_with_line s text line request whole journal it accepted))
+      | inr all ↦ (
+        after_one s request,
+        inr refl,
+        subst (IsJournalOf (after_one s request)) (sym (ap (λ (t : Text). whole_lines (text ++ t)) all ∙ whole_with text line whole it.whole))
+            (journal_with_line s text line request whole journal it accepted),
+      )
     ]
 
 -- the beginning of a list that ends within its second part

@@ -1,5 +1,5 @@
 -- The second record of an office: a script of the requests that it accepted, each written and flushed before it is acknowledged; and what a stop may leave of it.
-use Rattle.std.specs.Prelude.{◌≡◌, ◌⊎◌, ◌≤◌, ◌+◌, ◌++◌, ◌==◌, ℕ, Bool, true, false, List, [], ◌∷◌, Option, Some, None, IfSome, length, take, if◌then◌else◌}
+use Rattle.std.specs.Prelude.{◌≡◌, ◌⊎◌, ◌≤◌, ◌+◌, ◌++◌, ℕ, Bool, true, false, List, [], Option, Some, None, IfSome, length, take}
 use Rattle.clap.specs.Words.{Text}
 use Rattle.register.specs.Machine.{after, after_one, is_accepted, step_of}
 use Rattle.register.specs.Offices.{OfficeState}

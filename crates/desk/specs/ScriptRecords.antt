@@ -1,6 +1,5 @@
 -- A second record in a file.
-use Rattle.std.specs.Prelude.{◌≡◌, ◌++◌, ⊤, Bool, List, ℕ, [], Option, Some, None, IfSome, is_some}
-use Rattle.register.specs.declared.command.Request.{Request}
+use Rattle.std.specs.Prelude.{◌≡◌, ◌++◌, Bool, List, ℕ, [], Option, Some, IfSome, is_some}
 use Rattle.desk.specs.Records.{Appended}
 use Rattle.desk.specs.declared.script_record.RecordFault.{RecordFault}
 use Rattle.desk.specs.declared.script_record.RecordFault.TheVariants as fault

@@ -87,7 +87,7 @@ pub use orders::{
 pub use progress::ProgressSink;
 pub use record::{NoRecord, Recorder};
 pub use script_files::files_named_in;
-pub use second_record::{SecondTrial, second_open};
 pub use script_record::{DurableSink, RecordFault, ScriptRecord};
+pub use second_record::{SecondTrial, second_open};
 pub use slips::slips_of;
 pub use words::{WordsFault, order};

@@ -165,7 +165,12 @@ fn put_line<W: Sink>(line: Option<usize>, pieces: &[&str], sink: &mut W) -> Resu
 
 /// Prints a line, given in pieces, to the error output, with the line number as a prefix if it concerns a script's line. Returns
 /// the given status, or 3 if the error output fails.
-pub(crate) fn tell_error<E: Sink>(line: Option<usize>, pieces: &[&str], status: u8, err: &mut E) -> u8
+pub(crate) fn tell_error<E: Sink>(
+    line: Option<usize>,
+    pieces: &[&str],
+    status: u8,
+    err: &mut E,
+) -> u8
     requires { E.failed err.old < 2 ^ 64 - 1 }
     ensures { IsErrorTold E.taken E.failed err.old err.new (line_front line ++ flat_map (λ piece. piece.now) pieces.now) status result }
 {

@@ -236,15 +236,7 @@ fn run_script<S: Alter, F: Folder, R: Recorder, O: Sink, E: Sink>(
 {
     match script_steps(alloc, lines) {
         Ok(turns) => begin_steps(
-            alloc,
-            office,
-            keep_going,
-            left_out,
-            &turns,
-            folder,
-            recorder,
-            out,
-            err,
+            alloc, office, keep_going, left_out, &turns, folder, recorder, out, err,
         ),
         Err(fault) => tell_script_fault(&fault, err),
     }
@@ -258,7 +250,10 @@ struct ScriptPart {
 }
 
 /// Returns the contents of a script's file, or the reason why there are none. `file` is None if it couldn't be opened.
-pub(crate) fn bytes_of<R: Read + Drop>(alloc: Global, file: Option<R>) -> Result<Vec<u8>, LineOutcome>
+pub(crate) fn bytes_of<R: Read + Drop>(
+    alloc: Global,
+    file: Option<R>,
+) -> Result<Vec<u8>, LineOutcome>
     ensures read { IfOk result (λ bytes. HoldsText (option_map R.remaining file) (λ text. bytes.items ≡ text)) }
     ensures unread { IfErr result (λ outcome. IsUnreadScript (page_of outcome)) }
 {
@@ -335,15 +330,7 @@ fn replay<S: Alter, F: Folder, R: Recorder, O: Sink, E: Sink>(
     let (keep_going, left_out) = (asked.keep_going, script.left_out);
     match typed_lines(alloc, &script.lines) {
         Ok(said) => run_script(
-            alloc,
-            office,
-            keep_going,
-            left_out,
-            &said,
-            folder,
-            recorder,
-            out,
-            err,
+            alloc, office, keep_going, left_out, &said, folder, recorder, out, err,
         ),
         Err(_) => tell_script_fault(&ScriptFault::Memory, err),
     }
@@ -377,7 +364,9 @@ pub fn follow_recorded<S: Alter, F: Folder, R: Recorder, O: Sink, E: Sink>(
     ensures clean { HasCleanDisk (state S.Store office.new.held) → HasCleanDisk (state S.Store office.old.held) }
 {
     match job {
-        Job::Run(errand) => run(alloc, office, false, None, errand, folder, recorder, out, err),
+        Job::Run(errand) => run(
+            alloc, office, false, None, errand, folder, recorder, out, err,
+        ),
         Job::Replay(asked) => replay(alloc, office, *asked, folder, recorder, out, err),
     }
 }

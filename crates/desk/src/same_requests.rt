@@ -38,8 +38,7 @@ fn is_same_ward_command(one: &WardCommand, other: &WardCommand) -> bool
                 name: other_name,
             },
         ) => {
-            (ward == other_ward)
-                & ((seats == other_seats) & (name.as_str() == other_name.as_str()))
+            (ward == other_ward) & ((seats == other_seats) & (name.as_str() == other_name.as_str()))
         }
         (WardCommand::Close { ward }, WardCommand::Close { ward: other_ward }) => {
             ward == other_ward
@@ -164,9 +163,7 @@ fn is_same_count_command(one: &CountCommand, other: &CountCommand) -> bool
                 stage: other_stage,
                 candidate: other_candidate,
             },
-        ) => {
-            (ward == other_ward) & ((stage == other_stage) & (candidate == other_candidate))
-        }
+        ) => { (ward == other_ward) & ((stage == other_stage) & (candidate == other_candidate)) }
         (CountCommand::Declare { ward }, CountCommand::Declare { ward: other }) => ward == other,
         _ => false,
     }

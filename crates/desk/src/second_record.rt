@@ -38,8 +38,7 @@ use store::Fault;
 use streams::Sink;
 
 /// What is printed if an order of the record does something other than send one given request.
-const UNGIVEN: &str =
-    "error: an order in a second record is one request, and names no file\n";
+const UNGIVEN: &str = "error: an order in a second record is one request, and names no file\n";
 
 /// Two connections to empty databases, in which requests are replayed: those of the record; and then those without the last, or with
 /// one more.
@@ -165,7 +164,9 @@ fn more_there_text(alloc: Global, path: &str, request: &Request) -> Result<Strin
 fn apart_text(alloc: Global, path: &str, there: usize, here: usize) -> Result<String, AllocError>
     ensures { IfOk result (λ text. string_bytes text ≡ apart_text path.now there here) }
 {
-    format!(in alloc; "{path} is of another office, or they differ by more than one request: it has {there}, this office has {here}\n")
+    format!(in alloc;
+        "{path} is of another office, or they differ by more than one request: it has {there}, this office has {here}\n"
+    )
 }
 
 /// Returns the outcome if the record and the office hold the same.
@@ -372,7 +373,10 @@ fn compared<T: Alter>(
     let SecondTrial { same: first, other } = trial;
     let (led, same) = Office::leads_to(alloc, first, &requests, rows);
     match led {
-        Ok(true) => (same_as(alloc, path, requests.len()), SecondTrial { same, other }),
+        Ok(true) => (
+            same_as(alloc, path, requests.len()),
+            SecondTrial { same, other },
+        ),
         Ok(false) => {
             let (outcome, other) = difference(alloc, path, requests, rows, other);
             (outcome, SecondTrial { same, other })

@@ -15,9 +15,12 @@ returns-then-status-ne0-clause-sent g c =
       page = cut_note;
       cut = note.0;
       shown = note.1;
-      is = λ clean is_open s at.
-          ([], 0, inr (cut_note, note.0, refl, (λ goes. shown_else note.0 _ _ cut_note c.tell_cut_note-status.result note.1 c.if-status-ne0.true refl), inl (refl, record { is_open = is_open; at = at })),
-            none_recorded s [] (g.R.Recorder.found c.args.recorder.now) (g.R.Recorder.failed c.args.recorder.now));
+      is = λ clean is_open s at. (
+        [],
+        0,
+        inr (cut_note, note.0, refl, (λ goes. shown_else note.0 _ _ cut_note c.tell_cut_note-status.result note.1 c.if-status-ne0.true refl), inl (refl, record { is_open = is_open; at = at })),
+        none_recorded s [] (g.R.Recorder.found c.args.recorder.now) (g.R.Recorder.failed c.args.recorder.now),
+      );
     }
 
 -- it was, and the steps were run
@@ -34,8 +37,11 @@ returns-clause-sent g c =
       cut = cut_below [] told.cut;
       shown = shown_next told.cut _ _ _ cut_note told.page c.run_steps.result refl whole told.shown;
       is = λ clean is_open s at.
-          let it = told.is clean is_open s at in
-          ([] ++ it.0, it.1 + 0, inl (cut_note, record { requests = it.0; answered = it.1; page = told.page; cut = told.cut }, refl, refl, refl, it.2),
+          let it = told.is clean is_open s at in (
+            [] ++ it.0,
+            it.1 + 0,
+            inl (cut_note, record { requests = it.0; answered = it.1; page = told.page; cut = told.cut }, refl, refl, refl, it.2),
             λ fine. recorded_then s s [] it.0 it.1 (g.R.Recorder.found c.args.recorder.now) (g.R.Recorder.found c.args.recorder.now) (g.R.Recorder.found c.run_steps.new.recorder)
-                (g.R.Recorder.failed c.run_steps.new.recorder) refl (λ was. was) (it.3 fine));
+                (g.R.Recorder.failed c.run_steps.new.recorder) refl (λ was. was) (it.3 fine),
+          );
     }

@@ -1,5 +1,5 @@
 -- Proof that `run_steps` meets its contract.
-use Rattle.std.proofs.Common.{◌≡◌, ◌∙◌, ◌<◌, ◌∷◌, [], true, false, length, take, ap, refl, subst, sym, arith}
+use Rattle.std.proofs.Common.{◌≡◌, ◌∙◌, ◌<◌, true, false, length, take, ap, refl, subst, sym, arith}
 use Rattle.sqlite.specs.Held.{state}
 use Rattle.store.proofs.KeepLemmas.{connection_itself, connection_then}
 use Rattle.desk.specs.Headline.{told_above}
@@ -52,9 +52,11 @@ loop-turn-preserved g c =
               more.0,
               λ unfailed.
                   let before = so.1 unfailed in
-                  let kept = it.3 before.0 in
-                  (kept.unfailed more.2, λ was. subst (IsRecordOf found) (sym more.1) (recorded_all so.0.end it.0 it.1 (g.R.Recorder.found c.loop-turn.recorder) found
-                  (g.R.Recorder.failed c.run-status.new.recorder) more.2 kept (before.1 was))),
+                  let kept = it.3 before.0 in (
+                    kept.unfailed more.2,
+                    λ was. subst (IsRecordOf found) (sym more.1) (recorded_all so.0.end it.0 it.1 (g.R.Recorder.found c.loop-turn.recorder) found
+                        (g.R.Recorder.failed c.run-status.new.recorder) more.2 kept (before.1 was)),
+                  ),
             );
       };
     }

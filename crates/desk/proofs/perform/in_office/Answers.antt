@@ -4,7 +4,7 @@ use Rattle.sqlite.specs.State.{HasCleanDisk}
 use Rattle.sqlite.specs.Held.{state}
 use Rattle.store.proofs.KeepLemmas.{reads_connection}
 use Rattle.desk.specs.Pages.{failed}
-use Rattle.desk.specs.RecordedOrders.{HeadlineRecorded}
+use Rattle.desk.specs.RecordedOrders.{HeadlineRecorded, RecordPair}
 use Rattle.desk.specs.declared.lines.Failure.TheVariants.{Office}
 use Rattle.desk.specs.declared.orders.Task.TheVariants.{InOffice}
 use Rattle.desk.proofs.CauseLemmas.{since}
@@ -20,7 +20,7 @@ returns-in-Ok g c =
     let told = c.follow_recorded-status.ensures.did in
     let folder = g.F.Folder.held c.args.folder.now in
     let recorded = g.R.Recorder.records c.args.recorder.now in
-    let pair = record {
+    let pair : RecordPair = record {
       there = recorded;
       found_old = g.R.Recorder.found c.args.recorder.now;
       found_new = g.R.Recorder.found c.follow_recorded-status.new.recorder;
@@ -46,9 +46,16 @@ returns-in-Ok g c =
             in_office = λ db rests s left.
                 let here = c.in-Ok.ensures.reopens opened db rests s left in
                 let it = told.is ended here.is_open s here.at in
-                performed_recorded pair folder s (InOffice job) told.cut _ _ told.page status first next told.shown
-                (it.0, it.1, inl (closed, done_since recorded first mid closed next folder tells s job _ (done_recorded (g.R.Recorder.failed c.follow_recorded-status.new.recorder) recorded fails mid closed
-                next folder s job _ it.2)), it.3);
+                performed_recorded pair folder s (InOffice job) told.cut _ _ told.page status first next told.shown (
+                  it.0,
+                  it.1,
+                  inl (
+                    closed,
+                    done_since recorded first mid closed next folder tells s job _ (done_recorded (g.R.Recorder.failed c.follow_recorded-status.new.recorder) recorded fails mid closed
+                        next folder s job _ it.2),
+                  ),
+                  it.3,
+                );
             elsewhere = λ db ours rests none. let held = c.in-Ok.ensures.opened opened db ours rests in absurd (none held.0 held.1);
           });
     }
@@ -68,7 +75,7 @@ returns-in-Err g c =
             let leaves = read_leaves s db old new (λ trees is_open may. g.met.S.Store.settled c.args.conn.store trees is_open may) c.in-Err.ensures.reads_too clean rests left in
             let found = g.R.Recorder.found c.args.recorder.now in
             let failed = g.R.Recorder.failed c.args.recorder.now in
-            let pair = record { there = g.R.Recorder.records c.args.recorder.now; found_old = found; found_new = found; failed_old = failed; failed_new = failed } in
+            let pair : RecordPair = record { there = g.R.Recorder.records c.args.recorder.now; found_old = found; found_new = found; failed_old = failed; failed_new = failed } in
             performed_recorded pair (g.F.Folder.held c.args.folder.now) s (InOffice c.args.job.now) told.0 _ _ page c.tell.result old new told.1
             ([], 0, inr (page, told.0, refl, (c.in-Err.fault, refl, c.in-Err.ensures.cause clean db rests s left), leaves), none_recorded s [] found failed);
         elsewhere = λ db ours rests none. ((c.in-Err.fault, refl, (c.in-Err.ensures.told clean db ours rests, c.in-Err.ensures.fails clean db ours rests)), c.in-Err.ensures.reads_too);

@@ -1,5 +1,5 @@
 -- Proof that `are_same_texts` meets its contract.
-use Rattle.std.proofs.Common.{◌≡◌, ◌∙◌, rules, string_bytes, arith, sym, length, ◌<◌}
+use Rattle.std.proofs.Common.{◌∙◌, string_bytes, arith, sym, length, ◌<◌}
 use Rattle.desk.proofs.SameLemmas.{not_other, texts_more}
 use Rattle.desk.proofs.same_requests.are_same_texts.Goals as goal
 

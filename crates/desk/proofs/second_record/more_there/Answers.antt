@@ -1,5 +1,5 @@
 -- Proof that `more_there` meets its contract.
-use Rattle.std.proofs.Common.{◌≡◌, arith, inl, inr, length, refl}
+use Rattle.std.proofs.Common.{◌≡◌, arith, inr, length, refl}
 use Rattle.std.proofs.lemmas.List.{length-map}
 use Rattle.register.specs.Offices.{receipt_entry}
 use Rattle.rowcheck.specs.States.{state_of}

@@ -37,5 +37,5 @@ returns-clause-none c =
     let read = map line_entry c.in_ok-lines.lines.items in
     let said = map typed_line_entry c.in_ok-said.said.items in
     let fault = c.in-Err-ScriptLine in
-    flaw_of_text text read said fault.number fault.flaw (c.in_ok-lines.ensures ∙ ap (λ t. numbered_from 1 (lines_of t)) c.whole_lines.ensures)
-    (rw c.deref.ensures.value at c.in_ok-said.ensures) (rw c.deref-2.ensures.value at (rw fault.field-0-is at fault.ensures.err))
+    rw fault.field-0-is (flaw_of_text text read said fault.number fault.flaw (c.in_ok-lines.ensures ∙ ap (λ t. numbered_from 1 (lines_of t)) c.whole_lines.ensures)
+    (rw c.deref.ensures.value at c.in_ok-said.ensures) (rw c.deref-2.ensures.value at (rw fault.field-0-is at fault.ensures.err)))

@@ -53,9 +53,11 @@ loop-request-preserved g c =
               more.0,
               λ unfailed.
                   let before = so.1 unfailed in
-                  let kept = it.2 before.0 in
-                  (kept.unfailed more.2, λ was. subst (IsRecordOf found) (sym more.1) (recorded_all so.0.end (c.request-item.result ∷ []) it.0 (g.R.Recorder.found c.loop-request.recorder) found
-                  (g.R.Recorder.failed c.outcome_of.new.recorder) more.2 kept (before.1 was))),
+                  let kept = it.2 before.0 in (
+                    kept.unfailed more.2,
+                    λ was. subst (IsRecordOf found) (sym more.1) (recorded_all so.0.end (c.request-item.result ∷ []) it.0 (g.R.Recorder.found c.loop-request.recorder) found
+                        (g.R.Recorder.failed c.outcome_of.new.recorder) more.2 kept (before.1 was)),
+                  ),
             );
       };
     }
