@@ -31,14 +31,15 @@ use Rattle.wire.specs.Origins.{origin_setting}
 use Rattle.desk.specs.Pages.{Page, codes_page, failed}
 use Rattle.desk.specs.declared.lines.Failure.{Failure}
 use Rattle.desk.specs.declared.lines.Failure.TheVariants.{Office, Output}
-use Rattle.server.specs.Servers.{IsEndedBy, ServesRecorded}
+use Rattle.server.specs.Servers.{IsEndedBy, ServesRecorded, view_without_record}
 use Rattle.server.specs.Settings.{ServerSettingsEntry}
 use Rattle.server.specs.Exchanges.{KeepsExchanges, KeepsInRecord}
-use Rattle.server.specs.RecordChanges.{ServedView}
+use Rattle.server.specs.RecordChanges.{ServedView, served_view}
 use Rattle.server.specs.declared.serve_error.ServeError.{ServeError}
 use Rattle.server.specs.declared.serve_error.ServeError.TheVariants as ended
 use Rattle.server.specs.declared.server_settings.FileNumbers.{FileNumbers}
 use Rattle.count_office.specs.Hosts.{CodeFiles, IsReadAs}
+use Rattle.count_office.specs.Records.{has_failed}
 use Rattle.count_office.specs.declared.gate.GateFiles.{GateFiles}
 use Rattle.count_office.specs.declared.public.PublicTexts.{PublicTexts}
 use Rattle.count_office.specs.declared.serving.Serving.{Serving}
@@ -211,6 +212,25 @@ ServesOrder Tells Quiet status serving codes_at file recorded stream view before
     (IsUnread Tells status serving codes_at before later old new recorder recorder_later ⊎ IsUnopened Tells status view.state_of before later old new recorder recorder_later)
     ⊎ (IsShut Tells status view.state_of before later old new recorder recorder_later
     ⊎ IsServed Tells Quiet status (AreSettingsFor serving codes_at file recorded) stream view serving.port before later serving.connections old new recorder recorder_later)
+
+-- ---- with or without the file of a second record
+
+-- The order to serve with a second record in a file on this machine, about whose bytes nothing is known. The record couldn't be begun: no connection was accepted, and
+-- the office was only read. Or it was begun, and the order was performed with it, on the office as it was read.
+abbrev pub ServesInRecord : {L S R : Type 0} → (R → Bool) → (List ℕ → ℕ → ℕ → Type 0) → Type 0 → ℕ → Serving → CodeFiles → Option FileNumbers → Stream L → (Held S → State)
+    → (ℕ → NetworkEntry L) → (ℕ → NetworkEntry L) → Held S → Held S → Type 0
+ServesInRecord {L} {S} {R} has_failed Tells Quiet status serving codes_at file stream state_of before later old new =
+    ((later ≡ before) × OnlyReads (state_of old) (state_of new))
+    ⊎ ((read : Held S) × (recorder : R) × (recorder_later : R) × OnlyReads (state_of old) (state_of read) × (has_failed recorder ≡ false)
+    × ServesOrder Tells Quiet status serving codes_at file true stream (served_view state_of (λ its text. ⊥) has_failed) before later read new recorder recorder_later)
+
+-- The order to serve, with the file of a second record or without one.
+abbrev pub ServesWith : {Path L S : Type 0} → Option Path → (List ℕ → ℕ → ℕ → Type 0) → Type 0 → ℕ → Serving → CodeFiles → Option FileNumbers → Stream L → (Held S → State)
+    → (ℕ → NetworkEntry L) → (ℕ → NetworkEntry L) → Held S → Held S → Type 0
+ServesWith None Tells Quiet status serving codes_at file stream state_of before later old new =
+    ServesOrder Tells Quiet status serving codes_at file false stream (view_without_record state_of) before later old new (record {}) (record {})
+ServesWith (Some path) Tells Quiet status serving codes_at file stream state_of before later old new =
+    ServesInRecord has_failed Tells Quiet status serving codes_at file stream state_of before later old new
 
 -- ---- an office that takes the place of another
 

@@ -32,7 +32,7 @@ ghost use Rattle.desk.specs.Pages.{IsErrorTold, Tells, outputs_of};
 ghost use Rattle.desk.specs.Seconds.{IsSecondPage};
 ghost use Rattle.connections.specs.Streams.{stream_of};
 ghost use Rattle.count_office.specs.Done.{IsDoneWith};
-ghost use Rattle.count_office.specs.Serving.{ServesOrder};
+ghost use Rattle.count_office.specs.Serving.{ServesWith};
 ghost use Rattle.sqlite_wal.specs.Reads.{AreClean};
 ghost use Rattle.sqlite.specs.Closing.{IsCopied};
 
@@ -65,6 +65,8 @@ mod second_file;
 mod second_order;
 mod second_words;
 mod seconds;
+mod serving_record;
+mod timed_record;
 // the two outputs
 mod screen;
 // what is printed in addition for a person at a terminal
@@ -89,7 +91,8 @@ use screen::Screen;
 use second_order::{RecordedTask, perform_with_record};
 use second_words::{SplitWords, split_words};
 use seconds::second;
-use serving::{Serving, serve};
+use serving::Serving;
+use serving_record::serve_in_place;
 use sqlite::{Alter, Connection, ErrorCode, FileStore, Files};
 use sqlite_disk::Disk;
 use std::alloc::Global;
@@ -211,7 +214,7 @@ fn dispatch_order<H: Host, S: Alter, O: Sink, E: Sink>(
         Tells (outputs out.old err.old) (outputs out.new err.new) result.0 (λ _ page. HasCleanDisk (state S.Store result.1) → (db : Database) → RestsAt db (state S.Store conn)
         → (s : OfficeState) → IsLeftAt s db → IsSecondPage s path.now page)) }
     ensures serves { (serving : Serving) → order.now ≡ Order.Serve serving.port serving.connections serving.origin serving.codes serving.public
-        → (out.new ≡ out.old) × ServesOrder (IsErrorTold E.taken E.failed err.old err.new) (err.new ≡ err.old) result.0 serving (H.codes_at host.old) (H.file host.old)
+        → (out.new ≡ out.old) × ServesWith place.entry.second (IsErrorTold E.taken E.failed err.old err.new) (err.new ≡ err.old) result.0 serving (H.codes_at host.old) (H.file host.old)
         (stream_of H.Sockets.Stream.held H.Sockets.Stream.taken H.Sockets.Stream.failed) (state S.Store) (H.known host.old) (H.known host.new) conn result.1 }
 {
     let rt = place.rt;
@@ -231,7 +234,7 @@ fn dispatch_order<H: Host, S: Alter, O: Sink, E: Sink>(
                 codes: *codes,
                 public: *public,
             };
-            serve(rt.alloc(), host, serving, conn, err)
+            serve_in_place(place, host, serving, conn, err)
         }
         Order::Copy { path } => copy(rt, conn, path, out, err),
         Order::Journal => journal(rt, conn, out, err),
@@ -323,6 +326,7 @@ fn perform_at_path<O: Sink, E: Sink>(
     requires err { E.failed err.old < 2 ^ 64 - 1 }
 {
     let succession = Succession {
+        is_open: Cell::new(false),
         has_moved: Cell::new(false),
         listeners: Cell::new(None),
     };
@@ -345,9 +349,12 @@ fn perform_at_path<O: Sink, E: Sink>(
     status
 }
 
-/// Returns whether an order can have a second record: its requests, if any, change an office that exists.
+/// Returns whether an order can have a second record: it serves an office that exists, or its requests, if any, change one.
 fn takes_second(order: &Order<'_>) -> bool {
-    matches!(order, Order::Perform(Task::InOffice(_)))
+    matches!(
+        order,
+        Order::Perform(Task::InOffice(_)) | Order::Serve { .. }
+    )
 }
 
 /// Prints that an order can't have a second record, and returns the status.
@@ -355,7 +362,7 @@ fn refuse_second<O: Sink, E: Sink>(alloc: Global, out: &mut O, err: &mut E) -> u
     requires out { O.failed out.old < 2 ^ 64 - 1 }
     requires err { E.failed err.old < 2 ^ 64 - 1 }
 {
-    let text = "error: --second FILE goes with an order that changes an office\n";
+    let text = "error: --second FILE goes with an order that changes or serves an office\n";
     match String::from_str(alloc, text) {
         Ok(text) => tell_words(&WordsFault::Words { text, status: 2 }, out, err),
         Err(_) => tell_words(&WordsFault::Memory, out, err),

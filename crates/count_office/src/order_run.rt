@@ -323,6 +323,21 @@ fn successor_of(rt: &HostRuntime, path: &str) -> Result<String, Failure> {
     }
 }
 
+/// Returns the path of the second record of a new office, given that of the first office, and how many there are by now.
+fn numbered_path(
+    rt: &HostRuntime,
+    path: Option<&str>,
+    number: u64,
+) -> Result<Option<String>, Failure> {
+    let Some(path) = path else {
+        return Ok(None);
+    };
+    match format!(in rt.alloc(); "{path}-{number}") {
+        Ok(path) => Ok(Some(path)),
+        Err(_) => Err(Failure::Office(Fault::Memory)),
+    }
+}
+
 /// Prints a failure to the error output, and returns the status.
 fn tell_unfollowed(rt: &HostRuntime, failure: Failure) -> u8 {
     tell_failure(failure, &mut Counted::new(rt.stderr()))
@@ -338,7 +353,8 @@ fn perform_anew(request: OrderRun<'_>) -> u8 {
 }
 
 /// Performs an order on the database at a path, and returns its status. If the order serves an office and a new one takes its place,
-/// serves that one, and so on; the status is that of the last one.
+/// serves that one, and so on; the status is that of the last one. If there is a second record FILE, the next offices have theirs in
+/// FILE-2, FILE-3 and so on.
 pub fn perform_and_follow<O: Sink, E: Sink>(request: OrderRun<'_>, out: &mut O, err: &mut E) -> u8
     requires out { O.failed out.old < 2 ^ 64 - 1 }
     requires err { E.failed err.old < 2 ^ 64 - 1 }
