@@ -311,30 +311,44 @@ pub fn perform_quietly<O: Sink, E: Sink>(
     None
 }
 
-/// Returns the path of the office that took the place of the one at a path, or the failure if no note says so.
-fn successor_of(rt: &HostRuntime, path: &str) -> Result<String, Failure> {
-    let found = fs::canonicalize(rt, path).and_then(|database| moved_to(rt, database.as_str()));
-    match found {
-        Ok(Some(new)) => Ok(new),
-        Err(error) if error.kind() == ErrorKind::OutOfMemory => {
-            Err(Failure::Office(Fault::Memory))
-        }
-        _ => Err(Failure::FileGone),
-    }
+/// A new office that took the place of one that was served: the path of its database, and that of its second record, if it has one.
+#[derive(Drop)]
+struct Successor {
+    path: String,
+    second: Option<String>,
 }
 
-/// Returns the path of the second record of a new office, given that of the first office, and how many there are by now.
-fn numbered_path(
-    rt: &HostRuntime,
-    path: Option<&str>,
-    number: u64,
-) -> Result<Option<String>, Failure> {
-    let Some(path) = path else {
-        return Ok(None);
-    };
-    match format!(in rt.alloc(); "{path}-{number}") {
-        Ok(path) => Ok(Some(path)),
-        Err(_) => Err(Failure::Office(Fault::Memory)),
+impl Successor {
+    /// Returns the office that took the place of the one at a path, or the failure if no note says so. The second record of the order's
+    /// first office gives the name of its own, together with its number.
+    fn find(request: OrderRun<'_>, path: &str, number: u64) -> Result<Successor, Failure> {
+        let rt = request.rt;
+        let found = fs::canonicalize(rt, path).and_then(|database| moved_to(rt, database.as_str()));
+        let path = match found {
+            Ok(Some(path)) => path,
+            Err(error) if error.kind() == ErrorKind::OutOfMemory => {
+                return Err(Failure::Office(Fault::Memory));
+            }
+            _ => return Err(Failure::FileGone),
+        };
+        let second = match request.second {
+            Some(first) => match format!(in rt.alloc(); "{first}-{number}") {
+                Ok(second) => Some(second),
+                Err(_) => return Err(Failure::Office(Fault::Memory)),
+            },
+            None => None,
+        };
+        Ok(Successor { path, second })
+    }
+
+    /// Returns the order for this office.
+    fn run<'a>(&'a self, request: OrderRun<'a>) -> OrderRun<'a> {
+        OrderRun {
+            path: self.path.as_str(),
+            second: self.second.as_ref().map(|path| path.as_str()),
+            is_successor: true,
+            ..request
+        }
     }
 }
 
@@ -361,26 +375,21 @@ pub fn perform_and_follow<O: Sink, E: Sink>(request: OrderRun<'_>, out: &mut O, 
 {
     let OrderRun { rt, succession, .. } = request;
     let mut status = perform_with_retries(request, out, err);
-    let mut path = None;
-    for _ in 0..u64::MAX {
+    let mut successor: Option<Successor> = None;
+    for number in 2..u64::MAX {
         if !succession.has_moved.replace(false) {
             return status;
         }
-        let last = match &path {
-            Some(path) => String::as_str(path),
+        let last = match &successor {
+            Some(last) => last.path.as_str(),
             None => request.path,
         };
-        let new = match successor_of(rt, last) {
+        let new = match Successor::find(request, last, number) {
             Ok(new) => new,
             Err(failure) => return tell_unfollowed(rt, failure),
         };
-        let next = OrderRun {
-            path: new.as_str(),
-            is_successor: true,
-            ..request
-        };
-        status = perform_anew(next);
-        path = Some(new);
+        status = perform_anew(new.run(request));
+        successor = Some(new);
     }
     status
 }
