@@ -140,10 +140,7 @@ pub fn write_new(rt: &HostRuntime, path: &str, text: &[u8]) -> io::Result<()> {
         .create_new(true)
         .mode(RIGHTS_OF_ITS_OWNER)
         .open(rt, path)?;
-    match file
-        .write_all(text)
-        .and_then(|_| file.sync_all())
-    {
+    match file.write_all(text).and_then(|_| file.sync_all()) {
         Ok(()) => Ok(()),
         Err(error) => {
             let _ = fs::remove_file(rt, path);

@@ -64,7 +64,7 @@ fn begin<'a, S: Alter>(
     conn: Connection<S>,
 ) -> (Result<TimedRecord<'a>, u8>, Connection<S>)
     ensures reads { OnlyReads (state S.Store conn) (state S.Store result.1) }
-    ensures whole { IfOk result.0 (λ record. has_failed record ≡ false) }
+    ensures whole { IfOk result.0 (λ its. has_failed its ≡ false) }
 {
     let rt = place.rt;
     let (text, conn) = beginning_of(rt, conn);
@@ -127,8 +127,14 @@ pub fn serve_in_place<H: Host, S: Alter, E: Sink>(
     match place.second {
         Some(path) => serve_with_record(place, path, host, serving, conn, err),
         None => {
-            let (status, conn, NoRecord) =
-                serve(place.rt.alloc(), host, serving, conn, NoRecord, err);
+            let (status, conn, NoRecord) = serve(
+                place.rt.alloc(),
+                host,
+                serving,
+                conn,
+                NoRecord,
+                err,
+            );
             (status, conn)
         }
     }

@@ -28,6 +28,6 @@ returns-clause-told g c =
       shown = told.shown;
       is = λ clean was s at.
           let it = told.is clean was s at (memory_is_clean c.second_open-status.result.1.same) (memory_is_clean c.second_open-status.result.1.other)
-              (memory_is_blank c.in-Ok.trial.same c.in-Ok.ensures.0) (memory_is_blank c.in-Ok.trial.other c.in-Ok.ensures.1) in
+          (memory_is_blank c.in-Ok.trial.same c.in-Ok.ensures.0) (memory_is_blank c.in-Ok.trial.other c.in-Ok.ensures.1) in
           inl (it.0, it.2);
     }
