@@ -1,9 +1,10 @@
 """What the program costs, and how often papers are keyed."""
-import contextlib, json, os, random, resource, select
+import collections, contextlib, json, os, random, resource, select
 
 from office_tools.election import COPYING, ELECTION, END, READS, REPLAY, SCRIPTED, Order, keying, marks_of, ward_orders
 from office_tools.office import HERE, Office, Table, needs, program as program_of, ran, request, side_by_side, status, timed, wrong_if
 from office_tools.players import keys_of
+from office_tools.recount import blt, written
 
 CANDIDATES, SEATS, BATCH, RUNS = 10, 4, 500, 5
 LARGE = [Order(line.split()) for line in (
@@ -126,6 +127,54 @@ def bench_serving(room, rounds=5, *, program: list = ()):
     for what in results[0]:
         middle = [sorted(result[what] for result in results)[TURNS // 2] for results in found.values()]
         table.row(what, *(f"{count:,.0f} ({count / max(1, middle[0]):.2f})" for count in middle))
+
+def cast(lines, lists, chance, candidates=12):
+    """Returns as many papers as there are lines, of so many different lists."""
+    numbers, found = range(1, candidates + 1), {}
+    while len(found) < lists:
+        order = sorted(numbers, key=lambda c: c + 1.2 * candidates * chance.random())
+        found[tuple(order[:chance.randint(1, 7)])] = True
+    papers = [*found, *chance.choices([*found], k=lines - lists)]
+    chance.shuffle(papers)
+    return [f"Candidate {c}" for c in numbers], papers
+
+def record_files(names, papers):
+    """Yields the forms in which papers can be given: what it is, its content, and the words that it needs."""
+    ward, once = ["--seats", "4", "--name", "Quay"], [(1, named) for named in papers]
+    named = [word for name in names for word in ("--candidate", name)]
+    for what, bundles in (("lists", sorted((count, named) for named, count in collections.Counter(papers).items())), ("papers", once)):
+        yield f"BLT, a line for each of the {what}", written(blt(4, bundles, names, [0] * 5, "Quay")), []
+    ranks = [",".join([*map(str, named), *[""] * (7 - len(named))]) for named in papers]
+    yield "a rank in each column", written([",".join(f"rank{rank}" for rank in range(1, 8)), *ranks]), ward + named
+    marks = [",".join(str(named.index(c) + 1) if c in named else "" for c in range(1, len(names) + 1)) for named in papers]
+    yield "a candidate in each column", written([",".join(names), *marks]), ward
+
+def costs(*words):
+    """Returns what a program prints, its processor time in seconds, and its memory in MB."""
+    printed = ran("time", "-f", "%U %S %M", *words, text=False)
+    wrong_if(printed.status, f"{words}: status {printed.status}")
+    user, system, memory = map(float, printed.err.split()[-3:])
+    return printed.out, user + system, memory / 1024
+
+def bench_ballots(room, lines=1000000, lists=73000, *, other=""):
+    """Measures counts of ballots without an office, and prints a table: the least processor time of five runs, and the memory.
+
+    The papers come from a fixed generator: as many as LINES, of LISTS different lists of 12 candidates. They are counted in each form
+    that is read. --other names another program, which gets the path of the BLT file alone, and must print the same sheet. It needs GNU's
+    `time`.
+    """
+    needs("time")
+    table, texts = Table(f"{lines:,} papers, {lists:,} lists", "file, MB", "seconds", "memory, MB"), set()
+    for what, content, words in record_files(*cast(lines, lists, random.Random(7))):
+        (room / "ballots").write_bytes(content)
+        calls = {what: [program_of("CHECK_COUNT"), "--count", str(room / "ballots"), *words]}
+        if other and not words:
+            calls[f"{what}, by {os.path.basename(other)}"] = [other, str(room / "ballots")]
+        for who, call in calls.items():
+            runs = [costs(*call) for _ in range(RUNS)]
+            texts.update(out for out, *_ in runs)
+            table.row(who, f"{len(content) / 1e6:.1f}", f"{min(run[1] for run in runs):.2f}", f"{max(run[2] for run in runs):.0f}")
+    wrong_if(len(texts) > 1, f"{len(texts)} sheets of the same papers")
 
 SIZES, RATES, RECOMMENDED, MOST = (25, 50, 75, 100), (0.003, 0.005, 0.01, 0.02), (50, 0.01), 2.6
 

@@ -1,5 +1,7 @@
 -- Lemmas shared by the proofs about the readers.
 pub mod TokenLemmas
+pub mod FlawLemmas
+pub mod TallyLemmas
 pub mod RankLemmas
 pub mod NameLemmas
 pub mod DifferenceLemmas

@@ -76,7 +76,7 @@ pub candidate_back : (highest c : ℕ) → 1 ≤ c → c ≤ highest → highest
 candidate_back highest c some few bound =
     rw (number_back 255 c (omega arith) (omega arith), ne_eqb c 0 (λ e. omega (arith, e)), le-ltb highest c few) refl
 
-pointwise_same : (xs ys : Text) → pointwise nat_eq xs ys ≡ true → xs ≡ ys
+pub pointwise_same : (xs ys : Text) → pointwise nat_eq xs ys ≡ true → xs ≡ ys
 pointwise_same [] [] h = refl
 pointwise_same [] (y ∷ ys) h = absurd (false≢true h)
 pointwise_same (x ∷ xs) [] h = absurd (false≢true h)

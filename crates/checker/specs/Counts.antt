@@ -1,6 +1,6 @@
 -- The count of the ward in a file of ballots, and the texts of that count.
 use Rattle.std.specs.Prelude.{◌≡◌, ◌⊎◌, ◌==◌, ℕ, ◌+◌, nat_eq, nat_lt, Bool, true, false, if◌then◌else◌, List, []}
-use Rattle.std.specs.Prelude.{◌∷◌, ◌++◌, reverse, insert, option_map, Option, Some, None, Result, Ok, Err, codes, string_bytes, ⊤}
+use Rattle.std.specs.Prelude.{◌∷◌, reverse, insert, option_map, Option, Some, None, Result, Ok, Err, codes, string_bytes, ⊤}
 use Rattle.std.specs.Fmt.{decimal}
 use Rattle.std.specs.List.{flat_map, list_any}
 use Rattle.count.specs.Bundles.{Bundle}

@@ -3,6 +3,7 @@ pub mod Outcomes
 pub mod Tokens
 pub mod Numbers
 pub mod Ranks
+pub mod Tallies
 pub mod Papers
 pub mod ForeignComments
 pub mod Names

@@ -1,5 +1,5 @@
 -- The words of a request to count ballots: the path of the ballots, the text to print, and lots.
-use Rattle.std.specs.Prelude.{ℕ, ◌==◌, ◌&&◌, ◌||◌, nat_le, nat_lt, length, Bool, false, if◌then◌else◌, List, [], ◌∷◌, ◌++◌, codes, option_map, Option, Some, None, is_some, Result, Ok, Err}
+use Rattle.std.specs.Prelude.{ℕ, ◌==◌, ◌&&◌, ◌||◌, nat_le, nat_lt, length, Bool, false, if◌then◌else◌, List, [], ◌∷◌, ◌++◌, codes, Option, Some, None, is_some, Result, Ok, Err}
 use Rattle.std.specs.Option.{option_and_then}
 use Rattle.paper.specs.Columns.{max_candidates}
 use Rattle.votes.specs.Units.{max_seats}

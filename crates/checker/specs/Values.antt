@@ -14,6 +14,7 @@ use Rattle.checker.specs.declared.file_content.Comments.{Comments}
 use Rattle.checker.specs.declared.file_content.CandidateNames.{CandidateNames}
 use Rattle.checker.specs.declared.file_content.PaperTotals.{PaperTotals}
 use Rattle.checker.specs.declared.file_content.Reader.{Reader}
+use Rattle.checker.specs.declared.file_content.WardBallots.{WardBallots}
 
 -- the candidates in a line so far
 abbrev pub ranks_of : Ranks → Ranked
@@ -38,6 +39,15 @@ named_of names = record { names = map string_bytes names.names.items; ward = str
 -- the content of a file so far
 abbrev pub reading_of : Reader → ReaderEntry
 reading_of reader = record { place = reader.place; papers = told_of reader.papers; names = named_of reader.names; remarks = remarks_of reader.comments }
+
+-- the content of a file that has been read
+abbrev pub ballots_of : WardBallots → ReaderEntry
+ballots_of ballots = record {
+  place = ballots.place;
+  papers = record { highest = ballots.highest; seats = ballots.seats; withdrawn = ballots.withdrawn; bundles = ballots.bundles };
+  names = named_of ballots.names;
+  remarks = remarks_of ballots.comments;
+}
 
 -- the flaw in a line, if there is one; or a failed allocation
 abbrev pub IsFlawOf : {X : Type 0} → Result X (ℕ × BallotsFlaw) → Problem → Type 0

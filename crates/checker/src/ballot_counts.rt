@@ -8,10 +8,10 @@ ghost use Rattle.checker.specs.Counts.{IsWardText, IsWardUncounted, declaration_
 ghost use Rattle.checker.specs.Reading.{read};
 ghost use Rattle.checker.specs.RecordViews.{ward_told};
 ghost use Rattle.checker.specs.Records.{read_records};
-ghost use Rattle.checker.specs.Values.{reading_of};
+ghost use Rattle.checker.specs.Values.{ballots_of};
 
 use crate::counting::{WardCount, count_of};
-use crate::file_content::Reader;
+use crate::file_content::WardBallots;
 use crate::lot_lines::lot_line;
 use crate::lots::lots_of;
 use crate::problem::Problem;
@@ -154,20 +154,20 @@ fn counted(alloc: Global, election: &Election, text: &CountText) -> Result<Count
 /// Counts the ward in a file, with further lots, and returns a text of its count.
 fn counted_as(
     alloc: Global,
-    told: &Reader,
+    told: &WardBallots,
     added: &[(u8, u8)],
     text: &CountText,
 ) -> Result<CountedText, CountProblem>
-    ensures ok { IfOk result (λ counted. IsReadingText (reading_of told.now) added.now (text_of text.now) counted) }
-    ensures err { IfErr result (λ problem. IsReadingUncounted (reading_of told.now) added.now problem) }
+    ensures ok { IfOk result (λ counted. IsReadingText (ballots_of told.now) added.now (text_of text.now) counted) }
+    ensures err { IfErr result (λ problem. IsReadingUncounted (ballots_of told.now) added.now problem) }
 {
     let lots = lots_of(alloc, &told.comments.lots, added)?;
-    let Ok(candidates) = candidates_of(alloc, &told.papers.withdrawn, &told.names.names) else {
+    let Ok(candidates) = candidates_of(alloc, &told.withdrawn, &told.names.names) else {
         return Err(CountProblem::Ballots(Problem::Memory));
     };
     let election = Election {
         ward: ward_in(told, &candidates),
-        bundles: &told.papers.bundles,
+        bundles: &told.bundles,
         lots: &lots,
     };
     match counted(alloc, &election, text) {

@@ -6,12 +6,12 @@ ghost use Rattle.sheet.specs.Sheet.{declaration, sheet};
 ghost use Rattle.sheet.specs.Wards.{CanBePrinted};
 ghost use Rattle.checker.specs.Checks.{IsChecked, IsProblem, IsWardCheck, IsWardProblem, problem_of};
 ghost use Rattle.checker.specs.Differences.{IsComparison};
-ghost use Rattle.checker.specs.Values.{reading_of};
+ghost use Rattle.checker.specs.Values.{ballots_of};
 ghost use Rattle.checker.specs.Wards.{ward_told};
 
 use crate::counting::count_of;
 use crate::differences::{Checked, comparison};
-use crate::file_content::Reader;
+use crate::file_content::WardBallots;
 use crate::problem::Problem;
 use crate::reading::read;
 use crate::wards::{Election, candidates_of, ward_in};
@@ -64,16 +64,16 @@ fn checked_for(alloc: Global, election: &Election, text: &[u8]) -> Result<Checke
 }
 
 /// Counts the ward in a file, and compares a text with its sheet and its declaration.
-fn checked_as(alloc: Global, told: &Reader, text: &[u8]) -> Result<Checked, Problem>
-    ensures ok { let ward = ward_told (reading_of told.now) in IfOk result (λ checked. IsWardCheck ward.poll ward told.now.papers.bundles told.now.comments.lots.items text.now checked) }
-    ensures err { let ward = ward_told (reading_of told.now) in IfErr result (λ problem. IsWardProblem ward.poll ward told.now.papers.bundles told.now.comments.lots.items problem) }
+fn checked_as(alloc: Global, told: &WardBallots, text: &[u8]) -> Result<Checked, Problem>
+    ensures ok { let ward = ward_told (ballots_of told.now) in IfOk result (λ checked. IsWardCheck ward.poll ward told.now.bundles told.now.comments.lots.items text.now checked) }
+    ensures err { let ward = ward_told (ballots_of told.now) in IfErr result (λ problem. IsWardProblem ward.poll ward told.now.bundles told.now.comments.lots.items problem) }
 {
-    let Ok(candidates) = candidates_of(alloc, &told.papers.withdrawn, &told.names.names) else {
+    let Ok(candidates) = candidates_of(alloc, &told.withdrawn, &told.names.names) else {
         return Err(Problem::Memory);
     };
     let election = Election {
         ward: ward_in(told, &candidates),
-        bundles: &told.papers.bundles,
+        bundles: &told.bundles,
         lots: &told.comments.lots,
     };
     checked_for(alloc, &election, text)

@@ -4,6 +4,7 @@ ghost use Rattle.std.specs.Prelude.{◌≤◌, length};
 ghost use Rattle.paper.specs.Columns.{max_candidates};
 ghost use Rattle.votes.specs.Units.{max_seats};
 
+use crate::tally::Tally;
 use count::Bundles;
 use paper::Columns;
 
@@ -14,7 +15,7 @@ pub(crate) struct PaperTotals {
     pub(crate) highest: u8,
     pub(crate) seats: u8,
     pub(crate) withdrawn: Columns,
-    pub(crate) bundles: Bundles,
+    pub(crate) bundles: Tally,
     ghost few: { highest ≤ max_candidates },
     ghost some_seats: { 1 ≤ seats },
     ghost few_seats: { seats ≤ max_seats },
@@ -61,6 +62,21 @@ pub(crate) struct Reader {
     pub(crate) papers: PaperTotals,
     pub(crate) names: CandidateNames,
     pub(crate) comments: Comments,
+}
+
+/// The ballots of a ward, read from a file.
+#[derive(Drop)]
+pub(crate) struct WardBallots {
+    pub(crate) place: NextLine,
+    /// The highest candidate number.
+    pub(crate) highest: u8,
+    pub(crate) seats: u8,
+    pub(crate) withdrawn: Columns,
+    pub(crate) bundles: Bundles,
+    pub(crate) names: CandidateNames,
+    pub(crate) comments: Comments,
+    ghost some_seats: { 1 ≤ seats },
+    ghost few_seats: { seats ≤ max_seats },
 }
 
 /// The content of a file of records so far.

@@ -1,7 +1,7 @@
 //! Comments that are ignored, and those that are rejected because they begin like ours.
 
 ghost use Rattle.std.specs.Prelude.{◌≡◌};
-ghost use Rattle.checker.specs.ForeignComments.{begins_as_ours, behind_number_sign, after_signs, first_letters, is_count_office_word, skip_foreign};
+ghost use Rattle.checker.specs.ForeignComments.{begins_as_ours, after_signs, first_letters, is_count_office_word, skip_foreign};
 
 use crate::problem::BallotsFlaw;
 
@@ -52,16 +52,4 @@ pub(crate) fn skip_foreign(comment: &[u8]) -> Result<(), BallotsFlaw>
         return Err(BallotsFlaw::Astray);
     }
     Ok(())
-}
-
-/// Returns what follows the `#` in a line of numbers.
-pub(crate) fn behind_number_sign(line: &[u8]) -> &[u8]
-    ensures { result.now ≡ behind_number_sign line.now }
-{
-    for i in 0..line.len() {
-        if line[i] == b'#' {
-            return &line[i + 1..];
-        }
-    }
-    &[]
 }

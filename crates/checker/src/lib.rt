@@ -29,6 +29,7 @@ mod names;
 mod papers;
 mod ranks;
 mod reading;
+mod tally;
 // the content of cast-vote records so far, and what each line adds to it
 mod fields;
 mod rank_fields;

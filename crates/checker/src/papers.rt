@@ -12,7 +12,7 @@ use crate::file_content::PaperTotals;
 use crate::numbers::{candidate_in, number_in};
 use crate::problem::BallotsFlaw;
 use crate::ranks::{named_in, standing_of};
-use paper::{Columns, MAX_CANDIDATES, Prefs};
+use paper::{Columns, MAX_CANDIDATES};
 use std::alloc::{AllocError, Global};
 use votes::{MAX_PAPERS, MAX_SEATS};
 
@@ -99,13 +99,13 @@ impl PaperTotals {
         requires ranking { IsRanking list.now }
         ensures { IfOk result (λ told. outcome told (told_of self.new) ≡ with_list (told_of self.old) papers list.now) }
     {
-        let Some(prefs) = Prefs::from_slice(list) else {
+        if list.is_empty() {
             return Ok(Err(BallotsFlaw::NoPreference));
-        };
+        }
         if papers > MAX_PAPERS - self.bundles.papers() {
             return Ok(Err(BallotsFlaw::TooManyPapers));
         }
-        self.bundles.add_papers(prefs, papers)?;
+        self.bundles.add_papers(list, papers)?;
         Ok(Ok(()))
     }
 

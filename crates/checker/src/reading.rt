@@ -1,32 +1,35 @@
 //! Reading ballots line by line.
 
-ghost use Rattle.std.specs.Prelude.{◌≡◌, ◌<◌, ◌≤◌, map, length, IfOk, IfErr, Ok};
+ghost use Rattle.std.specs.Prelude.{◌≡◌, ◌+◌, ◌<◌, ◌≤◌, map, length, IfOk, IfErr, OnOk, Ok};
 ghost use Rattle.paper.specs.Columns.{max_candidates};
+ghost use Rattle.checker.specs.ForeignComments.{behind_number_sign};
 ghost use Rattle.checker.specs.Outcomes.{outcome, told_as};
-ghost use Rattle.checker.specs.Reading.{at_end, before_comment, is_end_line, is_withdrawn_line, nothing_told, read, read_from};
+ghost use Rattle.checker.specs.Reading.{at_end, before_comment, is_end_line, is_withdrawn_line, nothing_told, on_line, read};
 ghost use Rattle.checker.specs.Reading.{words_before_comment, with_content_at, with_line, with_name_line, with_papers_line, with_size_line, with_withdrawn_line};
-ghost use Rattle.checker.specs.Values.{IsFlawOf, reading_of};
+ghost use Rattle.checker.specs.Values.{IsFlawOf, ballots_of, reading_of};
 
-use crate::file_content::{CandidateNames, Comments, NextLine, PaperTotals, Reader};
-use crate::foreign_comments::{behind_number_sign, skip_foreign};
+use crate::file_content::{CandidateNames, Comments, NextLine, PaperTotals, Reader, WardBallots};
+use crate::foreign_comments::skip_foreign;
 use crate::names::name_in;
 use crate::problem::{BallotsFlaw, Problem};
 use crate::ranks::is_zero;
-use crate::tokens::{LineKind, Separator, kind_of, lines_of, pieces_of};
-use count::Bundles;
+use crate::tally::Tally;
+use crate::tokens::{LineKind, Separator, behind_byte_order_mark, kind_of, pieces_of};
 use paper::Columns;
 use std::alloc::{AllocError, Global};
 
-/// Returns the bytes of a line of numbers before the `#` that begins a comment.
-fn before_comment(line: &[u8]) -> &[u8]
-    ensures { result.now ≡ before_comment line.now }
+/// Splits a line of numbers at the `#` that begins its comment, and returns what precedes and what follows it. Without a comment
+/// nothing follows.
+fn split_comment(line: &[u8]) -> (&[u8], &[u8])
+    ensures before { result.0.now ≡ before_comment line.now }
+    ensures behind { result.1.now ≡ behind_number_sign line.now }
 {
     for i in 0..line.len() {
         if line[i] == b'#' {
-            return &line[..i];
+            return (&line[..i], &line[i + 1..]);
         }
     }
-    line
+    (line, &[])
 }
 
 /// Returns the words of a line of numbers, without its comment if there is one.
@@ -36,10 +39,11 @@ fn words_before_comment(
 ) -> Result<Result<Vec<&[u8]>, BallotsFlaw>, AllocError>
     ensures { IfOk result (λ told. told_as (λ words. map (λ w. w.now) words.items) told ≡ words_before_comment line.now) }
 {
-    if let Err(flaw) = skip_foreign(behind_number_sign(line)) {
+    let (numbers, comment) = split_comment(line);
+    if let Err(flaw) = skip_foreign(comment) {
         return Ok(Err(flaw));
     }
-    Ok(Ok(pieces_of(alloc, Separator::Blank, before_comment(line))?))
+    Ok(Ok(pieces_of(alloc, Separator::Blank, numbers)?))
 }
 
 /// Returns whether the line of numbers is the `0` that ends the papers.
@@ -73,7 +77,7 @@ impl Reader {
                 highest: 0,
                 seats: 1,
                 withdrawn: Columns::empty(),
-                bundles: Bundles::new(alloc),
+                bundles: Tally::new(alloc),
             },
             names: CandidateNames {
                 names: Vec::new(alloc),
@@ -191,6 +195,33 @@ impl Reader {
         }
     }
 
+    /// Processes the line with the given number.
+    fn take_numbered(&mut self, alloc: Global, number: u64, line: &[u8]) -> Result<(), Problem>
+        ensures ok { OnOk result (with_line (reading_of self.old) line.now ≡ Ok (reading_of self.new)) }
+        ensures err { IfErr result (λ problem. IsFlawOf (on_line number (with_line (reading_of self.old) line.now) (λ more. Ok more)) problem) }
+    {
+        match self.take_line(alloc, line) {
+            Ok(Ok(())) => Ok(()),
+            Ok(Err(flaw)) => Err(Problem::Line { line: number, flaw }),
+            Err(_) => Err(Problem::Memory),
+        }
+    }
+
+    /// Returns the ballots of a file that has been read to its end.
+    pub(crate) fn into_ballots(self) -> Result<WardBallots, AllocError>
+        ensures { IfOk result (λ ballots. ballots_of ballots ≡ reading_of self) }
+    {
+        Ok(WardBallots {
+            place: self.place,
+            highest: self.papers.highest,
+            seats: self.papers.seats,
+            withdrawn: self.papers.withdrawn,
+            bundles: self.papers.bundles.into_bundles()?,
+            names: self.names,
+            comments: self.comments,
+        })
+    }
+
     /// Checks that the file may end here. The error is the flaw.
     fn at_end(&self) -> Result<(), BallotsFlaw>
         ensures { outcome result (reading_of self.now) ≡ at_end self.now.place (reading_of self.now) }
@@ -204,40 +235,49 @@ impl Reader {
     }
 }
 
-/// Reads the given lines. The problem is the first of them that isn't understood, or a failed allocation.
-fn read_lines(alloc: Global, lines: &[&[u8]]) -> Result<Reader, Problem>
-    ensures ok { IfOk result (λ reader. read_from 0 nothing_told (map (λ line. line.now) lines.now) ≡ Ok (reading_of reader)) }
-    ensures err { IfErr result (λ problem. IsFlawOf (read_from 0 nothing_told (map (λ line. line.now) lines.now)) problem) }
+/// Reads the lines of a file. The problem is the first of them that isn't understood, or a failed allocation.
+// Each line is read where it is in the file: a list of a million lines would take as much memory as the file.
+fn read_lines(alloc: Global, bytes: &[u8]) -> Result<Reader, Problem>
+    ensures ok { IfOk result (λ reader. read bytes.now ≡ Ok (reading_of reader)) }
+    ensures err { IfErr result (λ problem. IsFlawOf (read bytes.now) problem) }
 {
+    let text = behind_byte_order_mark(bytes);
     let mut reader = Reader::new(alloc);
-    for (i, line) in lines.iter().enumerate() {
-        match reader.take_line(alloc, line) {
-            Ok(Ok(())) => {}
-            Ok(Err(flaw)) => {
-                return Err(Problem::Line {
-                    line: i as u64 + 1,
-                    flaw,
-                });
-            }
-            Err(_) => return Err(Problem::Memory),
+    let mut lines: u64 = 0;
+    let mut start = 0;
+    for i in 0..text.len() {
+        if text[i] != b'\n' {
+            continue;
         }
+        if let Err(problem) = reader.take_numbered(alloc, lines + 1, &text[start..i]) {
+            return Err(problem);
+        }
+        lines += 1;
+        start = i + 1;
+    }
+    if let Err(problem) = reader.take_numbered(alloc, lines + 1, &text[start..]) {
+        return Err(problem);
     }
     match reader.at_end() {
         Ok(()) => Ok(reader),
         Err(flaw) => Err(Problem::Line {
-            line: lines.len() as u64,
+            line: lines + 1,
             flaw,
         }),
     }
 }
 
 /// Reads a file. The problem is the first of its lines that isn't understood, or a failed allocation.
-pub(crate) fn read(alloc: Global, bytes: &[u8]) -> Result<Reader, Problem>
-    ensures ok { IfOk result (λ reader. read bytes.now ≡ Ok (reading_of reader)) }
+pub(crate) fn read(alloc: Global, bytes: &[u8]) -> Result<WardBallots, Problem>
+    ensures ok { IfOk result (λ ballots. read bytes.now ≡ Ok (ballots_of ballots)) }
     ensures err { IfErr result (λ problem. IsFlawOf (read bytes.now) problem) }
 {
-    match lines_of(alloc, bytes) {
-        Ok(lines) => read_lines(alloc, &lines),
+    let reader = match read_lines(alloc, bytes) {
+        Ok(reader) => reader,
+        Err(problem) => return Err(problem),
+    };
+    match reader.into_ballots() {
+        Ok(ballots) => Ok(ballots),
         Err(_) => Err(Problem::Memory),
     }
 }

@@ -1,6 +1,6 @@
 //! Reading cast-vote records: comma-separated values with a candidate or a rank in each column.
 
-ghost use Rattle.std.specs.Prelude.{◌≡◌, ◌<◌, ◌≤◌, Ok, [], length, map, string_bytes, IfOk, IfErr};
+ghost use Rattle.std.specs.Prelude.{◌≡◌, ◌<◌, ◌≤◌, Ok, [], length, map, string_bytes, IfOk, IfErr, OnOk};
 ghost use Rattle.std.specs.List.{range_with_len};
 ghost use Rattle.paper.specs.Columns.{max_candidates};
 ghost use Rattle.paper.specs.Preferences.{rejection_of};
@@ -11,18 +11,21 @@ ghost use Rattle.checker.specs.Outcomes.{outcome, told_as};
 ghost use Rattle.checker.specs.RecordViews.{columns_told, records_told, ward_told};
 ghost use Rattle.checker.specs.Records.{after_comma, as_read, before_comma, nothing_recorded, papers_for, read_records, records_from, with_columns, with_counted, with_header};
 ghost use Rattle.checker.specs.Records.{with_judged, with_keyed, with_line, with_marks, with_papers, with_preferences, with_ranks, with_record, with_rejected, without_return};
-ghost use Rattle.checker.specs.Values.{IsFlawOf, reading_of, told_of};
+ghost use Rattle.checker.specs.Reading.{on_line};
+ghost use Rattle.checker.specs.Tokens.{lines_of};
+ghost use Rattle.checker.specs.Values.{IsFlawOf, ballots_of, reading_of, told_of};
 
 use crate::file_content::{
     CandidateNames, Comments, Header, NextLine, PaperTotals, Reader, RecordColumns, Records,
+    WardBallots,
 };
 use crate::papers::papers_in;
 use crate::problem::{BallotsFlaw, Problem};
 use crate::rank_fields::ranked_in;
 use crate::records_header::header_in;
 use crate::records_ward::RecordsWard;
-use crate::tokens::{LineKind, kind_of, lines_of};
-use count::Bundles;
+use crate::tally::Tally;
+use crate::tokens::{LineKind, behind_byte_order_mark, kind_of};
 use paper::{Columns, Keyed, MarkFault, Marked, Marks, Rejection, judge};
 use std::alloc::{AllocError, Global};
 
@@ -280,6 +283,18 @@ impl Records {
         }
     }
 
+    /// Processes the line with the given number.
+    fn take_numbered(&mut self, alloc: Global, number: u64, line: &[u8]) -> Result<(), Problem>
+        ensures ok { OnOk result (with_line (records_told self.old) line.now ≡ Ok (records_told self.new)) }
+        ensures err { IfErr result (λ problem. IsFlawOf (on_line number (with_line (records_told self.old) line.now) (λ more. Ok more)) problem) }
+    {
+        match self.take(alloc, line) {
+            Ok(Ok(())) => Ok(()),
+            Ok(Err(flaw)) => Err(Problem::Line { line: number, flaw }),
+            Err(_) => Err(Problem::Memory),
+        }
+    }
+
     /// Returns the reader that would have resulted if the ward's ballots, with the given name, had been read.
     fn into_reader(self, alloc: Global, name: String) -> Reader
         ensures { reading_of result ≡ as_read (string_bytes name) (records_told self) }
@@ -311,35 +326,39 @@ fn papers_for(alloc: Global, seats: u8, highest: u8) -> PaperTotals
         highest,
         seats,
         withdrawn: Columns::empty(),
-        bundles: Bundles::new(alloc),
+        bundles: Tally::new(alloc),
     }
 }
 
-/// Reads the given lines. The problem is the first of them that isn't understood, or a failed allocation.
-fn records_in(alloc: Global, ward: &RecordsWard, lines: &[&[u8]]) -> Result<Records, Problem>
-    ensures ok { IfOk result (λ records. records_from 0 (nothing_recorded (ward_told ward.now)) (map (λ line. line.now) lines.now) ≡ Ok (records_told records)) }
-    ensures err { IfErr result (λ problem. IsFlawOf (records_from 0 (nothing_recorded (ward_told ward.now)) (map (λ line. line.now) lines.now)) problem) }
+/// Reads the lines of a file. The problem is the first of them that isn't understood, or a failed allocation.
+fn records_in(alloc: Global, ward: &RecordsWard, bytes: &[u8]) -> Result<Records, Problem>
+    ensures ok { IfOk result (λ records. records_from 0 (nothing_recorded (ward_told ward.now)) (lines_of bytes.now) ≡ Ok (records_told records)) }
+    ensures err { IfErr result (λ problem. IsFlawOf (records_from 0 (nothing_recorded (ward_told ward.now)) (lines_of bytes.now)) problem) }
 {
     let Ok(mut records) = Records::new(alloc, ward) else {
         return Err(Problem::Memory);
     };
-    for (i, line) in lines.iter().enumerate() {
-        match records.take(alloc, line) {
-            Ok(Ok(())) => {}
-            Ok(Err(flaw)) => {
-                return Err(Problem::Line {
-                    line: i as u64 + 1,
-                    flaw,
-                });
-            }
-            Err(_) => return Err(Problem::Memory),
+    let text = behind_byte_order_mark(bytes);
+    let mut lines: u64 = 0;
+    let mut start = 0;
+    for i in 0..text.len() {
+        if text[i] != b'\n' {
+            continue;
         }
+        if let Err(problem) = records.take_numbered(alloc, lines + 1, &text[start..i]) {
+            return Err(problem);
+        }
+        lines += 1;
+        start = i + 1;
+    }
+    if let Err(problem) = records.take_numbered(alloc, lines + 1, &text[start..]) {
+        return Err(problem);
     }
     if records.headed {
         return Ok(records);
     }
     Err(Problem::Line {
-        line: lines.len() as u64,
+        line: lines + 1,
         flaw: BallotsFlaw::NoColumns,
     })
 }
@@ -350,19 +369,19 @@ pub(crate) fn read_records(
     alloc: Global,
     ward: &RecordsWard,
     bytes: &[u8],
-) -> Result<Reader, Problem>
-    ensures ok { IfOk result (λ reader. read_records (ward_told ward.now) bytes.now ≡ Ok (reading_of reader)) }
+) -> Result<WardBallots, Problem>
+    ensures ok { IfOk result (λ ballots. read_records (ward_told ward.now) bytes.now ≡ Ok (ballots_of ballots)) }
     ensures err { IfErr result (λ problem. IsFlawOf (read_records (ward_told ward.now) bytes.now) problem) }
 {
-    let Ok(lines) = lines_of(alloc, bytes) else {
-        return Err(Problem::Memory);
-    };
-    let records = match records_in(alloc, ward, &lines) {
+    let records = match records_in(alloc, ward, bytes) {
         Ok(records) => records,
         Err(problem) => return Err(problem),
     };
-    match String::from_str(alloc, ward.name) {
-        Ok(name) => Ok(records.into_reader(alloc, name)),
+    let Ok(name) = String::from_str(alloc, ward.name) else {
+        return Err(Problem::Memory);
+    };
+    match records.into_reader(alloc, name).into_ballots() {
+        Ok(ballots) => Ok(ballots),
         Err(_) => Err(Problem::Memory),
     }
 }

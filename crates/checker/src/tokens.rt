@@ -1,7 +1,7 @@
 //! Splitting a text into lines, and a line into words.
 
 ghost use Rattle.std.specs.Prelude.{◌≡◌, ◌++◌, [], map, IfOk};
-ghost use Rattle.checker.specs.Tokens.{behind_byte_order_mark, is_blank, kind_of, lines_of, parts, piece, pieces_of};
+ghost use Rattle.checker.specs.Tokens.{behind_byte_order_mark, is_blank, kind_of, parts, piece, pieces_of};
 
 use std::alloc::{AllocError, Global};
 
@@ -56,6 +56,8 @@ fn parts(separator: Separator, byte: u8) -> bool
 }
 
 /// Appends one piece; an empty piece between two blanks isn't a word.
+// Inlined into the loop of `pieces_of`, so that the list isn't handed over by memory for each word of a large file.
+#[inline(always)]
 fn with_piece<'a>(
     mut pieces: Vec<&'a [u8]>,
     separator: Separator,
@@ -95,20 +97,13 @@ pub(crate) fn pieces_of<'a>(
 }
 
 /// Returns a text without its leading byte order mark, if it has one.
-fn behind_byte_order_mark(text: &[u8]) -> &[u8]
+pub(crate) fn behind_byte_order_mark(text: &[u8]) -> &[u8]
     ensures { result.now ≡ behind_byte_order_mark text.now }
 {
     match text {
         [0xef, 0xbb, 0xbf, rest @ ..] => rest,
         _ => text,
     }
-}
-
-/// Splits a text into lines. A line feed ends a line, and a leading byte order mark is skipped.
-pub(crate) fn lines_of(alloc: Global, text: &[u8]) -> Result<Vec<&[u8]>, AllocError>
-    ensures { IfOk result (λ lines. map (λ p. p.now) lines.items ≡ lines_of text.now) }
-{
-    pieces_of(alloc, Separator::LineFeed, behind_byte_order_mark(text))
 }
 
 /// Returns the kind of a line.

@@ -4,10 +4,10 @@ ghost use Rattle.std.specs.Prelude.{◌≡◌, ◌≤◌, length, map, string_by
 ghost use Rattle.paper.specs.Columns.{IsCandidateSet, max_candidates};
 ghost use Rattle.sheet.specs.Wards.{CanBePrinted, HasFewPapers};
 ghost use Rattle.sheet.specs.Entries.{shown};
-ghost use Rattle.checker.specs.Values.{reading_of};
+ghost use Rattle.checker.specs.Values.{ballots_of};
 ghost use Rattle.checker.specs.Wards.{candidates_of, candidates_told, numbers_of, poll_by, ward_told};
 
-use crate::file_content::Reader;
+use crate::file_content::WardBallots;
 use count::Bundles;
 use paper::Columns;
 use sheet::{Poll, Ward};
@@ -80,13 +80,13 @@ pub(crate) fn poll_by(
 }
 
 /// Returns the ward described by a file, given its candidates.
-pub(crate) fn ward_in<'a>(told: &'a Reader, candidates: &'a [(u8, String)]) -> Ward<'a>
-    requires candidates { map (λ candidate. (candidate.0, string_bytes candidate.1)) candidates.now ≡ candidates_told (reading_of told.now) }
+pub(crate) fn ward_in<'a>(told: &'a WardBallots, candidates: &'a [(u8, String)]) -> Ward<'a>
+    requires candidates { map (λ candidate. (candidate.0, string_bytes candidate.1)) candidates.now ≡ candidates_told (ballots_of told.now) }
     requires set { IsCandidateSet (map (λ candidate. candidate.0) candidates.now) }
-    ensures is { shown result ≡ ward_told (reading_of told.now) }
+    ensures is { shown result ≡ ward_told (ballots_of told.now) }
     ensures printable { CanBePrinted result }
 {
-    let seats = told.papers.seats;
+    let seats = told.seats;
     Ward {
         number: told.comments.ward.unwrap_or(1),
         name: told.names.ward.as_str(),
@@ -94,7 +94,7 @@ pub(crate) fn ward_in<'a>(told: &'a Reader, candidates: &'a [(u8, String)]) -> W
         candidates,
         poll: poll_by(
             told.comments.rejected,
-            &told.papers.bundles,
+            &told.bundles,
             candidates.len(),
             seats,
         ),

@@ -137,7 +137,12 @@ judged_papers j k batch paper given =
     record {
       part = λ s actor. rw (batch, paper) refl;
       subject = rw (batch, paper) refl;
-      objects = λ actor part. rw (batch, paper, same_objection (columns_of part.candidates) k.paper j.verdict k.verdict given, same_validity (columns_of part.candidates) j.verdict k.verdict given) refl;
+      objects = λ actor part. rw (
+        batch,
+        paper,
+        same_objection (columns_of part.candidates) k.paper j.verdict k.verdict given,
+        same_validity (columns_of part.candidates) j.verdict k.verdict given,
+      ) refl;
       replies = λ part. rw (batch, paper, same_word j.verdict k.verdict given) refl;
       effect = λ actor part. rw (batch, paper, same_judged k.batch k.paper j.verdict k.verdict given) refl;
     }

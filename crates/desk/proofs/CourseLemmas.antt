@@ -111,10 +111,12 @@ module _ (keep : Bool) (line : Option ℕ) (tells : OfficeState → Request → 
   -- the outcome of the remaining requests follows
   pub replied_then : (recorded : Bool) (Then : OfficeState → Course → Type 0) (old : State) (closed : Bool) (st : State) (s : OfficeState) (front : List Request)
       (said : Page) (end : OfficeState) (others : List Request) (c : Course)
-      → Replied s front said end → IsSentBy recorded old closed st keep line tells Then end others c → IsSentBy recorded old closed st keep line tells Then s (front ++ others) (told_above front said c)
+      → Replied s front said end → IsSentBy recorded old closed st keep line tells Then end others c
+      → IsSentBy recorded old closed st keep line tells Then s (front ++ others) (told_above front said c)
   replied_then recorded Then old closed st s [] said end others c (none, same) sent =
       subst (λ x. IsSentBy recorded old closed st keep line tells Then x others (told_above [] said c)) same
-      (subst (λ page. IsSentBy recorded old closed st keep line tells Then end others (told_above [] page c)) (sym none) (subst (IsSentBy recorded old closed st keep line tells Then end others) (above_none c) sent))
+      (subst (λ page. IsSentBy recorded old closed st keep line tells Then end others (told_above [] page c)) (sym none)
+      (subst (IsSentBy recorded old closed st keep line tells Then end others) (above_none c) sent))
   replied_then recorded Then old closed st s (r ∷ rs) said end others c (rest, fine, is, more) sent = inl (
     told_above rs rest c,
     fine,
@@ -224,7 +226,8 @@ module _ (recorded : Bool) (old : State) (keep : Bool) (line : Option ℕ) (tell
       → IsAnsweredBy old closed st recorded tells so.end r answered page → (goes_on keep (fronted line page).status ≡ true → cut ≢ uncut)
       → AllSent closed st (told_above (take i rs) said (ended line (r ∷ drop (i + 1) rs) answered page cut))
   sent_last i r said was before page cut answered closed st within is so it ends =
-      subst (λ xs. IsSentBy recorded old closed st keep line tells (IsOver closed st) s xs (told_above (take i rs) said (ended line (r ∷ drop (i + 1) rs) answered page cut))) (rejoined rs i r within is)
+      subst (λ xs. IsSentBy recorded old closed st keep line tells (IsOver closed st) s xs (told_above (take i rs) said (ended line (r ∷ drop (i + 1) rs) answered page cut)))
+      (rejoined rs i r within is)
       (replied_then keep line tells recorded (IsOver closed st) old closed st s (take i rs) said so.end (r ∷ drop (i + 1) rs) (ended line (r ∷ drop (i + 1) rs) answered page cut) so.replied
       (inr (answered, page, cut, refl, (λ goes. ends (ap (goes_on keep) (fronted_status line page) ∙ goes)), it)))
 
@@ -300,7 +303,8 @@ played_since recorded a b closed st keep folder since s (turn ∷ turns) c (file
   inl (
     own,
     sends,
-    sent_turned {Q = Unit {0}} recorded a b closed st keep turn.line (page_answered turn.errand) since (λ x e more gone. played_since recorded a b closed st keep folder since x turns e more) s own c (λ gone. tt) sent,
+    sent_turned {Q = Unit {0}} recorded a b closed st keep turn.line (page_answered turn.errand) since
+        (λ x e more gone. played_since recorded a b closed st keep folder since x turns e more) s own c (λ gone. tt) sent,
   ),
 )
 played_since recorded a b closed st keep folder since s (turn ∷ turns) c (file, found, inr unsent) =
@@ -312,7 +316,8 @@ begun_since recorded a b closed st false keep folder since s turns c begun = pla
 begun_since recorded a b closed st true keep folder since s turns c begun =
     unsent_since a b closed st false None _ s c since (λ e more. played_since recorded a b closed st keep folder since s turns e more) begun
 
-pub done_since : (recorded : Bool) (a b : State) (closed : Bool) (st : State) (folder : Folder) → TellsSince a b st → (s : OfficeState) (job : Job) (c : Course) → IsDoneBy recorded b closed st folder s job c
+pub done_since : (recorded : Bool) (a b : State) (closed : Bool) (st : State) (folder : Folder) → TellsSince a b st → (s : OfficeState) (job : Job) (c : Course)
+    → IsDoneBy recorded b closed st folder s job c
     → IsDoneBy recorded a closed st folder s job c
 done_since recorded a b closed st folder since s job c (inl (turns, left_out, are, begun)) =
     inl (turns, left_out, are, begun_since recorded a b closed st left_out (keeps_going job) folder since s turns c begun)
@@ -400,7 +405,8 @@ taken_then recorded old closed st keep folder s (turn ∷ ts) own said end other
     let whole = subst (λ xs. IsSentBy recorded old closed st keep turn.line (page_answered turn.errand) (λ next e. IsPlayedBy recorded old closed st keep folder next (ts ++ others) e) s xs
     (told_above requests page (told_above left rest c))) (append-nil requests) sent in
     subst (IsPlayedBy recorded old closed st keep folder s (turn ∷ (ts ++ others))) (same_above requests left own page rest said c own_is said_is) (file, found, inl (requests, sends, whole))
-taken_then recorded old closed st keep folder s (turn ∷ ts) own said end others c (file, requests, left, page, rest, mid, found, inr (told, is, goes, none, page_is, stays), own_is, said_is, more) played =
+taken_then recorded old closed st keep folder s (turn ∷ ts) own said end others c
+    (file, requests, left, page, rest, mid, found, inr (told, is, goes, none, page_is, stays), own_is, said_is, more) played =
     let later = taken_then recorded old closed st keep folder mid ts left rest end others c more played in
     let here = subst (λ x. IsPlayedBy recorded old closed st keep folder x (ts ++ others) (told_above left rest c)) stays later in
     let without = ap (λ xs. told_above xs page (told_above left rest c)) none ∙ ap (λ p. told_above [] p (told_above left rest c)) page_is in
@@ -424,7 +430,8 @@ pub record TakenSo (keep : Bool) (folder : Folder) (s : OfficeState) (turns : Li
   pub own : List Request
   pub taken : Taken keep folder s (take i turns) own said end
 
-abbrev pub none_taken : (keep : Bool) (folder : Folder) (s : OfficeState) (turns : List ScriptStep) (closed : Bool) (st : State) → IsOpenAt s closed st → TakenSo keep folder s turns 0 empty_page closed st
+abbrev pub none_taken : (keep : Bool) (folder : Folder) (s : OfficeState) (turns : List ScriptStep) (closed : Bool) (st : State) → IsOpenAt s closed st
+    → TakenSo keep folder s turns 0 empty_page closed st
 none_taken keep folder s turns closed st here = record { end = s; open_at = here; own = []; taken = (refl, refl, refl) }
 
 module _ (recorded : Bool) (old : State) (keep : Bool) (folder : Folder) (s : OfficeState) (turns : List ScriptStep) where
@@ -496,7 +503,8 @@ module _ (recorded : Bool) (old : State) (keep : Bool) (folder : Folder) (s : Of
       → (so : TakenSo keep folder s turns i said was before) → IsPlayedBy recorded mid closed st keep folder so.end (turn ∷ []) c → (WentOn keep c → ⊥) → AllPlayed closed st (told_above so.own said c)
   turn_last mid i turn said was before c closed st within is since so played bad =
       subst (λ ts. IsPlayedBy recorded old closed st keep folder s ts (told_above so.own said c)) (rejoined turns i turn within is)
-      (taken_then recorded old closed st keep folder s (take i turns) so.own said so.end (turn ∷ drop (i + 1) turns) c so.taken (turn_then mid closed st so.end turn (drop (i + 1) turns) c since bad played))
+      (taken_then recorded old closed st keep folder s (take i turns) so.own said so.end (turn ∷ drop (i + 1) turns) c so.taken
+      (turn_then mid closed st so.end turn (drop (i + 1) turns) c since bad played))
 
   -- all steps were run
   pub turns_all : (i : ℕ) (said : Page) (closed : Bool) (st : State) → length turns ≤ i → (so : TakenSo keep folder s turns i said closed st)

@@ -22,7 +22,8 @@ use Rattle.store.proofs.ReopenLemmas.{left_holds, left_told}
 use Rattle.office.specs.Answers.{IsMemoryOrStore, Told}
 use Rattle.office.proofs.RunLemmas.{beginning}
 use Rattle.desk.specs.Folders.{Folder}
-use Rattle.desk.specs.Headline.{Course, IsAnswered, IsAnsweredBy, IsBegunBy, IsDone, IsDoneBy, IsPerformed, IsPlayedBy, IsSentBy, IsStopped, IsUnrecorded, IsUnsent, IsUntouched, Performs, PerformsBy, answer, ended, told_above}
+use Rattle.desk.specs.Headline.{Course, IsAnswered, IsAnsweredBy, IsBegunBy, IsDone, IsDoneBy, IsPerformed, IsPlayedBy, IsSentBy, IsStopped}
+use Rattle.desk.specs.Headline.{IsUnrecorded, IsUnsent, IsUntouched, Performs, PerformsBy, answer, ended, told_above}
 use Rattle.desk.specs.Pages.{Cut, uncut, IsShown, Outputs, Page, cut_below, empty_page, fronted, goes_on}
 use Rattle.desk.specs.Scripts.{keeps_going}
 use Rattle.desk.specs.Parts.{ComesTo}

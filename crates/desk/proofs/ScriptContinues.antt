@@ -1,5 +1,6 @@
 -- A script that goes on: whole lines, and another whole line appended to them.
-use Rattle.std.proofs.Common.{◌≡◌, ◌⊎◌, ◌∙◌, ◌==◌, ◌&&◌, ◌≤◌, inl, inr, ℕ, suc, Bool, true, false, List, [], ◌∷◌, ◌++◌, Some, length, map, take, drop, refl, sym, ap, ap₂, arith, subst, eqb-true, leb, leb-true, leb-false}
+use Rattle.std.proofs.Common.{◌≡◌, ◌⊎◌, ◌∙◌, ◌==◌, ◌&&◌, ◌≤◌, inl, inr, ℕ, suc, Bool, true, false, List, [], ◌∷◌, ◌++◌, Some, length, map}
+use Rattle.std.proofs.Common.{take, drop, refl, sym, ap, ap₂, arith, subst, eqb-true, leb, leb-true, leb-false}
 use Rattle.std.specs.Prelude.{◌||◌}
 use Rattle.std.specs.List.{list_any}
 use Rattle.std.proofs.lemmas.List.{append-nil, append_assoc, map-append, take-append-drop, take-append-le, take_all, length-append}
@@ -124,7 +125,8 @@ whole_cut text line k whole it = by (leb k (length it.words)) refl
     by true e =
         let within : k ≤ length it.words = leb-true k (length it.words) e in
         let cut : take k line ≡ take k it.words = ap (take k) it.ends ∙ take-append-le k it.words (10 ∷ []) within in
-        inl (whole_more text (take k line) whole ∙ ap (λ (rest : Text). text ++ whole_lines rest) cut ∙ ap (λ (rest : Text). text ++ rest) (unbroken [] (take k it.words) (none_in_front k it.words it.one)) ∙ append-nil text)
+        inl (whole_more text (take k line) whole ∙ ap (λ (rest : Text). text ++ whole_lines rest) cut
+        ∙ ap (λ (rest : Text). text ++ rest) (unbroken [] (take k it.words) (none_in_front k it.words it.one)) ∙ append-nil text)
     by false e =
         let past : length line ≤ k = omega (arith, leb-false k (length it.words) e, ap length it.ends, length-append it.words (10 ∷ [])) in
         inr (take_all k line past)

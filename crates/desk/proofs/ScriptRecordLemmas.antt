@@ -1,5 +1,6 @@
 -- What a stop leaves of a record to which the entry of a request was appended.
-use Rattle.std.proofs.Common.{◌≡◌, ◌⊎◌, ◌∙◌, ◌≤◌, ◌-◌, inl, inr, ℕ, zero, suc, Bool, true, false, List, [], ◌∷◌, ◌++◌, Option, Some, None, IfSome, Result, Ok, Err, length, take, refl, sym, ap, arith, subst, leb, leb-true, leb-false}
+use Rattle.std.proofs.Common.{◌≡◌, ◌⊎◌, ◌∙◌, ◌≤◌, ◌-◌, inl, inr, ℕ, zero, suc, Bool, true, false, List, [], ◌∷◌, ◌++◌, Option, Some, None, IfSome}
+use Rattle.std.proofs.Common.{Result, Ok, Err, length, take, refl, sym, ap, arith, subst, leb, leb-true, leb-false}
 use Rattle.std.specs.Prelude.{◌&&◌, OnErr}
 use Rattle.std.proofs.lemmas.List.{append-nil, append_assoc, take-append-le, take_all}
 use Rattle.register.specs.Machine.{after, after_one, is_accepted, state_after, step_of}
@@ -11,7 +12,7 @@ use Rattle.desk.specs.Journals.{IsJournalOf, IsScriptOf}
 use Rattle.desk.specs.Records.{Appended, AppendsAll, AppendsSome, FlushesAll, IsLeftOf, IsRecordOf, Leaves, LeavesRecord, Records}
 use Rattle.desk.specs.Scripts.{whole_lines}
 use Rattle.desk.specs.RequestLines.{IsComment, IsEntryOf, IsLineOf}
-use Rattle.desk.specs.ScriptRecords.{PutsAll}
+use Rattle.desk.specs.ScriptRecords.{HoldsJournal, PutsAll}
 use Rattle.desk.proofs.ContentLemmas.{same_step}
 use Rattle.desk.proofs.ScriptContinues.{script_continues, whole_cut, whole_with}
 
@@ -143,6 +144,21 @@ all_of file = file.flushed ++ file.pending
 
 left_all : (file : Appended) → IsLeftOf file (all_of file)
 left_all file = record { count = length file.pending; is = ap (λ (t : Text). file.flushed ++ t) (sym (take_all (length file.pending) file.pending (omega arith))) }
+
+-- a file that holds a journal is a record
+holds_record : (text : Text) (s : OfficeState) → whole_lines text ≡ text → IsJournalOf s text → IsRecordOf (Leaves (Some (record { flushed = text; pending = [] }))) s
+holds_record text s whole journal =
+    record {
+      known = (text, record { count = 0; is = sym (append-nil text) });
+      whole = λ other left. subst (λ (t : Text). whole_lines t ≡ t) (sym (same other left)) whole;
+      leads = λ other left. (s, refl, subst (IsJournalOf s) (sym (ap whole_lines (same other left) ∙ whole)) journal);
+    }
+  where
+    same : (other : Text) → IsLeftOf (record { flushed = text; pending = [] }) other → other ≡ text
+    same other left = left.is ∙ ap (λ (t : Text). text ++ t) (take_all left.count [] (omega arith)) ∙ append-nil text
+
+pub begins_record : (kept : Option Appended) (s : OfficeState) → HoldsJournal kept s → IsRecordOf (Leaves kept) s
+begins_record kept s it = subst (λ (k : Option Appended). IsRecordOf (Leaves k) s) (sym it.is) (holds_record it.text s it.whole it.journal)
 
 -- what a record leads to is a journal
 leads_exactly : (file : Appended) (s : OfficeState) (text : Text) → IsRecordOf (Leaves (Some file)) s → IsLeftOf file text → IsJournalOf s text

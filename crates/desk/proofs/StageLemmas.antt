@@ -243,7 +243,8 @@ module _ (recorded : Bool) (old : State) (keep : Bool) (line : Option ℕ) (s : 
         (
           so.front ++ r ∷ tail,
           going_then ward id s 1 so.front so.end (r ∷ tail) so.going (omega (arith, few, left_is, many)) (subst (λ k. AreAdvances so.end ward id k (r ∷ tail)) number are),
-          replied_then keep line (page_under id) recorded (IsOver closed st) old closed st s so.front said so.end (r ∷ tail) (ended line (r ∷ tail) answered page cut) so.replied (last_sent cut tail are stops),
+          replied_then keep line (page_under id) recorded (IsOver closed st) old closed st s so.front said so.end (r ∷ tail)
+              (ended line (r ∷ tail) answered page cut) so.replied (last_sent cut tail are stops),
         ),
       )
     where

@@ -67,7 +67,8 @@ fn run<S: Alter, F: Folder, R: Recorder, O: Sink, E: Sink>(
     ensures ran { let outputs = outputs_of O.taken O.failed E.taken E.failed in Tells (outputs out.old err.old) (outputs out.new err.new) result
         (λ cut page. WhenOpenAt (state S.Store) office.old office.new (λ s. ComesToRecorded cut page
         (λ own answered. R.failed recorder.old ≡ false → IsRecorded s own answered (R.found recorder.old) (R.found recorder.new) (R.failed recorder.new))
-        (λ course. IsPlayedBy (R.failed recorder.new) (state S.Store office.old.held) office.new.closed (state S.Store office.new.held) keep_going (F.held folder.now) s (record { line = line; errand = errand.now } ∷ []) course))) }
+        (λ course. IsPlayedBy (R.failed recorder.new) (state S.Store office.old.held) office.new.closed (state S.Store office.new.held)
+        keep_going (F.held folder.now) s (record { line = line; errand = errand.now } ∷ []) course))) }
     ensures same { R.records recorder.new ≡ R.records recorder.old }
     ensures keeps_connection { KeepsConnection (state S.Store office.old.held) (state S.Store office.new.held) }
     ensures clean { HasCleanDisk (state S.Store office.new.held) → HasCleanDisk (state S.Store office.old.held) }
@@ -229,7 +230,8 @@ fn run_script<S: Alter, F: Folder, R: Recorder, O: Sink, E: Sink>(
     ensures sent { let outputs = outputs_of O.taken O.failed E.taken E.failed in Tells (outputs out.old err.old) (outputs out.new err.new) result
         (λ cut page. WhenOpenAt (state S.Store) office.old office.new (λ s. ComesToRecorded cut page
         (λ own answered. R.failed recorder.old ≡ false → IsRecorded s own answered (R.found recorder.old) (R.found recorder.new) (R.failed recorder.new))
-        (λ course. IsReplayOfBy (R.failed recorder.new) left_out keep_going (F.held folder.now) s (map typed_line_entry lines.now) course (state S.Store office.old.held) office.new.closed (state S.Store office.new.held)))) }
+        (λ course. IsReplayOfBy (R.failed recorder.new) left_out keep_going (F.held folder.now) s (map typed_line_entry lines.now) course
+        (state S.Store office.old.held) office.new.closed (state S.Store office.new.held)))) }
     ensures same { R.records recorder.new ≡ R.records recorder.old }
     ensures keeps_connection { KeepsConnection (state S.Store office.old.held) (state S.Store office.new.held) }
     ensures clean { HasCleanDisk (state S.Store office.new.held) → HasCleanDisk (state S.Store office.old.held) }

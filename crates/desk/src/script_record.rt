@@ -1,8 +1,9 @@
 //! A second record in a file: a script with one line for each request.
 
 ghost use Rattle.std.specs.Prelude.{◌≡◌, false, is_err, Err, IfErr, IfSome, None, OnErr, OnOk, Option, Some, true};
-ghost use Rattle.desk.specs.Records.{Appended, AppendsAll, AppendsSome, FlushesAll, Leaves, Records};
-ghost use Rattle.desk.specs.ScriptRecords.{IsCauseOf, PutsAll, fault_of, file_of, has_failed};
+ghost use Rattle.register.specs.Offices.{OfficeState};
+ghost use Rattle.desk.specs.Records.{Appended, AppendsAll, AppendsSome, FlushesAll, IsRecordOf, Leaves, Records};
+ghost use Rattle.desk.specs.ScriptRecords.{HoldsJournal, IsCauseOf, PutsAll, fault_of, file_of, has_failed};
 
 use crate::record::Recorder;
 use crate::request_lines::entry_of;
@@ -32,6 +33,7 @@ pub trait DurableSink {
         ensures cause { OnErr result (broken self.new) };
 }
 
+#[tactic(auto, using(crate::proofs::ScriptRecordLemmas::flush_failed))]
 /// Appends bytes to a file and flushes them. After `Broken`, a beginning of them was appended, and nothing was flushed.
 fn put_durably<W: DurableSink>(file: &mut W, bytes: &[u8]) -> Result<(), Broken>
     ensures all { OnOk result (PutsAll (W.kept file.old) (W.kept file.new) bytes.now) }
@@ -58,8 +60,8 @@ pub enum RecordFault {
 
 /// A record in a file.
 ///
-/// The file must be complete when the record begins: all its bytes flushed, its last line ended, and its lines a journal of the
-/// office. The record then stays so until it fails. Once it has failed, nothing more is appended.
+/// When the record begins, the file must hold a journal of the office: all its bytes are flushed, and its last line has ended. After
+/// each request it then holds a journal again, until the record fails. Once it has failed, nothing more is appended.
 #[derive(Drop)]
 pub struct ScriptRecord<W> {
     alloc: Global,
@@ -69,10 +71,11 @@ pub struct ScriptRecord<W> {
 }
 
 impl<W: DurableSink> ScriptRecord<W> {
-    /// Returns a record that continues a file.
+    /// Returns a record that continues a file. If the file holds a journal of an office, it is a record of that office.
     pub fn new(alloc: Global, file: W) -> Self
         ensures file { file_of result ≡ file }
         ensures fault { fault_of result ≡ None }
+        ensures begins { (s : OfficeState) → HoldsJournal (W.kept file) s → IsRecordOf (Leaves (W.kept (file_of result))) s }
     {
         ScriptRecord {
             alloc,

@@ -440,8 +440,8 @@ fn second_in<S: Alter, T: Alter, O: Sink, E: Sink>(
 ///
 /// The whole lines of the file are parsed as a script of requests, and replayed in the first database of the trial. If they lead to
 /// exactly the state of the office, the status is 0. Otherwise it is 1. If one of the two has one request more, the line says which, and
-/// shows that request. It is looked for in the office's journal if the office has more of them, and is the last one of the record
-/// otherwise; it is shown only if the requests with it, or without it, lead to the office in the second database. If they don't, the line
+/// shows that request. If the office has more of them, it is looked for in the office's journal; otherwise it is the last one of the
+/// record. It is shown only if the requests with it, or without it, lead to the office in the second database. If they don't, the line
 /// has both numbers of requests.
 ///
 /// If a line of the file isn't understood, or its order is none that sends one given request, this is reported with its number and status

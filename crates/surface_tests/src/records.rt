@@ -55,12 +55,7 @@ impl DurableSink for MemoryFile {
 }
 
 /// Returns a request from the office, or from a clerk.
-fn request(
-    alloc: Global,
-    actor: u32,
-    id: &str,
-    command: Command,
-) -> Result<Request, AllocError> {
+fn request(alloc: Global, actor: u32, id: &str, command: Command) -> Result<Request, AllocError> {
     Ok(Request {
         actor,
         id: String::from_str(alloc, id)?,
@@ -82,7 +77,10 @@ fn numbers() -> [(Command, &'static str); 9] {
     [
         (Command::withdraw(7, 5), "withdraw 7 5 --id a1\n"),
         (Command::close_nominations(7), "close 7 --id a1\n"),
-        (Command::add_batch(12, 7, 8, 4, 9), "batch 12 7 8 4 9 --id a1\n"),
+        (
+            Command::add_batch(12, 7, 8, 4, 9),
+            "batch 12 7 8 4 9 --id a1\n",
+        ),
         (Command::again(12), "again 12 --id a1\n"),
         (Command::third(12, 5), "third 12 5 --id a1\n"),
         (

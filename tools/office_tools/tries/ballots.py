@@ -3,7 +3,7 @@ import collections, contextlib, itertools, os, random, re, sys
 
 from office_tools.election import Ward, damaged, judged, sealed_office
 from office_tools.office import Table, about, checker, timed, wrong_if
-from office_tools.recount import Ballots, Count, Unreadable, blt, counts, require, written
+from office_tools.recount import Ballots, Count, Unreadable, blt, counts, require, told_by, written
 
 # Characters that could steer a terminal: a question mark is shown for each.
 STEERS = re.compile("[\0-\x09\x0b-\x1f\x7f-\x9f\u061c\u200e\u200f\u202a-\u202e\u2066-\u2069]")
@@ -12,9 +12,11 @@ def compare(what, told, wanted):
     for place, (line, right) in enumerate(itertools.zip_longest(told.split(b"\n"), wanted.split(b"\n")), 1):
         wrong_if(line != right, f"{what}, line {place}: told is {line}, wanted {right}")
 
-def compare_counted(content, words, count, wanted):
-    """Counts a file without an office, with a count's lots, and compares each text by its option, the line about a lot and the status."""
-    line, added = b"0", [word for stage, drawn in count.ballots.lots.items() for word in ("--lot", f"{stage}:{drawn}")]
+def compare_counted(content, words, count, wanted, lots=None):
+    """Counts a file without an office, with a count's lots or those given, and compares each text by its option, the line about a lot and
+    the status."""
+    lots = count.ballots.lots if lots is None else lots
+    line, added = b"0", [word for stage, drawn in lots.items() for word in ("--lot", f"{stage}:{drawn}")]
     if count.waits:
         tied = ", ".join(f"{number} {count.ballots.names[number]}" for number in count.waits[1])
         line = STEERS.sub("?", f"lot needed at stage {count.waits[0]} among {tied}").encode() + b"\n1"
@@ -177,6 +179,113 @@ def cases(chance):
         differs = b"line %d differs" % (same.count(b"\n") + 1)
         yield "damaged sheets", ballots, text, [1], differs
 
+BLANKS, WARD, MOST = " \t\r", 'Harbour "7"', 4999500
+
+def number(word, most):
+    require(re.fullmatch("[0-9]+", word) and int(word) <= most, "no number, or too large")
+    return int(word)
+
+class BallotsLines:
+    """A ballots file, read line by line as docs/formats/ballots.md says."""
+
+    def __init__(self):
+        self.take, self.told, self.gone, self.bundles, self.names = self.take_size, {}, set(), collections.Counter(), []
+
+    def candidate(self, word):
+        require(number(word, self.highest) > 0, "no candidate")
+        return int(word)
+
+    def take_size(self, line):
+        highest, seats = self.words(line, 2)
+        self.highest, self.seats, self.take = number(highest, 30), number(seats, 15), self.take_withdrawn
+        require(self.seats > 0, "no seats")
+
+    def words(self, line, count=None):
+        numbers, sign, comment = line.partition("#")
+        told_by(comment, False)
+        words = re.findall("[^ \t\r]+", numbers)
+        require(count in (None, len(words)), "another number of words")
+        return words
+
+    def take_withdrawn(self, line):
+        words = self.words(line)
+        if not words[0].startswith("-"):
+            self.take = self.take_papers
+            return self.take_papers(line)
+        require(all(word.startswith("-") for word in words), "no minus")
+        self.gone.update(self.candidate(word[1:]) for word in words)
+
+    def take_papers(self, line):
+        words = self.words(line)
+        if words == ["0"]:
+            self.take = self.take_name
+            return
+        papers, ranks = number(words[0], MOST), [[self.candidate(c) for c in word.split("=")] for word in words[1:-1]]
+        read = itertools.takewhile(lambda rank: len([c for c in rank if c not in self.gone]) < 2, ranks)
+        named = [c for rank in read for c in rank]
+        preferences = tuple(c for c in named if c not in self.gone)
+        require(papers and words[-1] == "0" and preferences and len(set(named)) == len(named), "no papers")
+        self.bundles[preferences] += papers
+        require(self.bundles.total() <= MOST, "too many papers")
+
+    def take_name(self, line):
+        found = re.fullmatch(f'[{BLANKS}]*"((?:[^"\\\\]|\\\\.)*)"[{BLANKS}]*(?:#(.*))?', line, re.DOTALL)
+        require(found, "no name in quotation marks")
+        told_by(found[2] or "", False)
+        name = re.sub(r'\\(["\\])', r"\1", found[1])
+        require(len(name.encode()) <= 1000, "a name that is too long")
+        self.names.append(name)
+        self.take = self.take_name if len(self.names) <= self.highest else self.take_nothing
+
+    def take_nothing(self, line):
+        require(not line, "a line behind the ward's name")
+
+    def take_line(self, line):
+        if not line.lstrip(BLANKS).startswith("#"):
+            return self.take(line) if line.strip(BLANKS) else None
+        for what, numbers in told_by(line.lstrip(BLANKS)[1:], True):
+            told = self.told.setdefault(what, {})
+            key = numbers[0] if what == "lot" else what
+            require(key not in told, "a second time")
+            told[key] = numbers[-1] if what == "lot" else numbers
+
+    def lines(self):
+        """Returns the same ballots as the program prints them. Lots of an uncontested ward are left out."""
+        names = ["withdrawn" if c in self.gone else name for c, name in enumerate(self.names[:-1], 1)]
+        rejected, ward = self.told.get("rejected", {}).get("rejected"), self.told.get("ward", {}).get("ward", [1])[0]
+        bundles = [(papers, named) for named, papers in sorted(self.bundles.items())]
+        lines = blt(self.seats, bundles, names, rejected or [0] * 5, self.names[-1], ward, sorted(self.gone))
+        if len(names) - len(self.gone) > self.seats or bundles or rejected:
+            return [*lines, *(f"# Lot at stage {stage}: {c}" for stage, c in sorted(self.told.get("lot", {}).items()))]
+        return lines[:-1]
+
+def read_ballots(content):
+    """Returns the lines of a ballots file as the program prints it, or the number of the first line that isn't understood."""
+    ballots, lines = BallotsLines(), content.removeprefix(b"\xef\xbb\xbf").decode("utf-8", "surrogateescape").split("\n")
+    for place, line in enumerate(lines, 1):
+        try:
+            ballots.take_line(line)
+        except (Unreadable, UnicodeEncodeError):
+            return place
+    return ballots.lines() if ballots.take == ballots.take_nothing else len(lines)
+
+def compare_read(content):
+    """Compares what the program makes of a ballots file with what is read and counted here. Returns what that is."""
+    lines, refused = read_ballots(content), b"error: no more candidates than seats"
+    if isinstance(lines, int):
+        refused = b"error: line %d of the ballots: " % lines
+    else:
+        with contextlib.suppress(Unreadable):
+            count = Count(Ballots(written(lines)))
+            is_among = not count.waits or count.waits[0] not in count.lots
+            if is_among and (count.waits or not count.lots):
+                compare_counted(content, ["--count", "-"], count, {"": count.sheet(), "--ballots": written(lines)}, {})
+                return "counted"
+            refused = b"error: a lot is recorded for stage " if is_among else b"error: the lot for stage %d " % count.waits[0]
+    status, out, err = checker("--count", "-", input=content)
+    wrong_if(status != 2 or out or not err.startswith(refused), f"{refused} is wanted: status {status}, {err}, {out[:200]}")
+    return "refused"
+
 def checked(folder, what, ballots, text, right, pattern):
     """Has the checker compare a text with ballots. Returns its status, which must be a right one, as what it prints must match."""
     for name, content in (("ballots", ballots), ("text", text)):
@@ -196,16 +305,20 @@ def try_hostile_ballots(room, wards=100, seed=1):
     - Nothing that it prints has a character that steers a terminal, though some names have.
     - Of ballots that were damaged at random it reports that it doesn't understand them, and the line, or says whether they give the sheet.
       Files that no program writes (EXTREME) it doesn't understand, each in about a second.
+    - All ballots but EXTREME are read here a second time, line by line, by what docs/formats/ballots.md says, and counted by `tools/try
+      recount`. The program that counts without an office must print the same sheet and ballots, or refuse the file at the same line.
     """
-    runs = collections.defaultdict(collections.Counter)
+    runs, read = collections.defaultdict(collections.Counter), collections.defaultdict(collections.Counter)
     for ward in range(wards):
-        for what, *case in cases(random.Random(f"{seed} {ward}")):
-            runs[what][checked(room, f"ward {ward}, {what}", *case)] += 1
-    table = Table(f"What the checker is given ({wards} wards, seed {seed})", "runs", "yes", "no", "not understood")
+        for what, content, *case in cases(random.Random(f"{seed} {ward}")):
+            runs[what][checked(room, f"ward {ward}, {what}", content, *case)] += 1
+            with about(f"seed {seed}, ward {ward}, {what}, {content[:2000]!r}"):
+                read[what][compare_read(content)] += 1
+    table = Table(f"What the checker is given ({wards} wards, seed {seed})", "runs", "yes", "no", "not understood", "counted", "refused")
     for what, found in runs.items():
-        table.row(what, found.total(), *(found[status] for status in (0, 1, 2)))
+        table.row(what, found.total(), *(found[status] for status in (0, 1, 2)), read[what]["counted"], read[what]["refused"])
     slowest = max(timed(checked, room, what, content, b"", [2], b"error: ")[1] for what, content in EXTREME.items())
-    table.row(f"files that no program writes, at most {slowest:.1f} s each", len(EXTREME), 0, 0, len(EXTREME))
+    table.row(f"files that no program writes, at most {slowest:.1f} s each", len(EXTREME), 0, 0, len(EXTREME), "", "")
 
 VOTERS = ["Ann", "Bob", "Cy, jr.", 'D. "Dee"', "Eve", "Fay # 1", "-x", "Zoë", "G\\H", "<b>I</b>", " J ", "Rankin", "Countess", "Choices"]
 MARKS = [b",", b'"', b"\n", b"\r", b"0", b"99", b"100", b"\xff", b"rank1", b"count", b";", b"Ann", b"31"]
@@ -215,7 +328,6 @@ TITLES = ["rank", "choice", "preference", "first", "count", "weight", "votes", "
 ODD = [["", "1", "2", "3", "99"], ["", "", "1", "0", "02", "31", "99", "Ann ", "overvote", '"1"', '""']]
 ODD_HEADS = [["", "2nd", "RANK 1", "Choice-1", "Weight", "Votes", "Ballot paper", "Firstly", "count"],
              ["", "rank0", "rank", "RANK1", "rank01", "rank  1", "Ann", "rank1"]]
-WARD, MOST = 'Harbour "7"', 4999500
 FIELD = '(?:"(?:[^"]|"")*"|[^",]*)'
 
 def made_up_records(chance):

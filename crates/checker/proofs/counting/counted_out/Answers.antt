@@ -1,5 +1,5 @@
 -- Proof that `counted_out` meets its contract.
-use Rattle.std.proofs.Common.{◌≡◌, ◌∙◌, Some, sym, ap}
+use Rattle.std.proofs.Common.{◌≡◌, ◌∙◌, ap}
 use Rattle.count.proofs.Law.CountLemmas.{stages_right}
 use Rattle.checker.specs.Checks.{dues_of}
 use Rattle.checker.specs.Counts.{undrawn_at}

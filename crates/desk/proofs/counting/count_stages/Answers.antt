@@ -19,7 +19,11 @@ loop-request-init g c = record {
   keeps_connection = connection_itself (state g.S.Store c.args.office.now.held);
   clean = λ clean. clean;
   same = refl;
-  so_far = record { said = _; shown = nothing_told _; is = λ clean is_open s at keep ward id are. (none_counted keep _ s ward id _ _ _ (record { is_open = is_open; at = at }) are, λ fine. (fine, λ was. was)) };
+  so_far = record {
+    said = _;
+    shown = nothing_told _;
+    is = λ clean is_open s at keep ward id are. (none_counted keep _ s ward id _ _ _ (record { is_open = is_open; at = at }) are, λ fine. (fine, λ was. was));
+  };
 }
 
 pub loop-request-preserved : goal.loop-request-preserved

@@ -40,8 +40,8 @@ returns-in-Ok-typed_lines-clause-ran g c =
           let it = told.is clean is_open s at in (
             it.0,
             it.1,
-            replay_of (g.R.Recorder.failed c.run_script.new.recorder) (g.F.Folder.held c.args.folder.now) s c.args.asked _ c.open.ensures (state g.S.Store c.args.office.now.held) c.run_script.new.office.closed
-                (state g.S.Store c.run_script.new.office.held) lines left_out _ holds
+            replay_of (g.R.Recorder.failed c.run_script.new.recorder) (g.F.Folder.held c.args.folder.now) s c.args.asked _ c.open.ensures
+                (state g.S.Store c.args.office.now.held) c.run_script.new.office.closed (state g.S.Store c.run_script.new.office.held) lines left_out _ holds
                 (rw c.deref-in-Ok-typed_lines.ensures.value at it.2),
             it.3,
           );

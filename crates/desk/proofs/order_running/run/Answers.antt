@@ -118,8 +118,8 @@ returns-in-Ok-seal_of-clause-ran g c =
           let closed = c.send_all-in-Ok-seal_of.new.office.closed in
           let tells = since first mid next honest (reads_connection first mid c.seal_of.ensures.same) c.send_all-in-Ok-seal_of.ensures.keeps_connection in
           let it = told.is clean read.1.is_open s read.1.at in
-          let sent = sent_turned {Then = IsOver closed next} {Else = IsOver closed next} {Q = Unit {0}} (g.R.Recorder.failed c.send_all-in-Ok-seal_of.new.recorder) first mid closed next c.args.keep_going c.args.line page_for tells
-          (λ x e over gone. over) s (c.in-Ok-seal_of.request ∷ []) _ (λ gone. tt) it.2 in
+          let sent = sent_turned {Then = IsOver closed next} {Else = IsOver closed next} {Q = Unit {0}} (g.R.Recorder.failed c.send_all-in-Ok-seal_of.new.recorder)
+          first mid closed next c.args.keep_going c.args.line page_for tells (λ x e over gone. over) s (c.in-Ok-seal_of.request ∷ []) _ (λ gone. tt) it.2 in
           (it.0, it.1, (_, c.opened-file.ensures, rw c.in-SealExpected.is (inl (c.in-Ok-seal_of.request ∷ [], read.0, sent))), it.3);
     }
 
@@ -161,8 +161,8 @@ returns-in-Ok-keying_of-clause-ran g c =
           let closed = c.send_all-in-Ok-keying_of.new.office.closed in
           let tells = since first mid next honest (reads_connection first mid c.keying_of.ensures.same) c.send_all-in-Ok-keying_of.ensures.keeps_connection in
           let it = told.is clean read.1.is_open s read.1.at in
-          let sent = sent_turned {Then = IsOver closed next} {Else = IsOver closed next} {Q = Unit {0}} (g.R.Recorder.failed c.send_all-in-Ok-keying_of.new.recorder) first mid closed next c.args.keep_going c.args.line page_for tells
-          (λ x e over gone. over) s (c.in-Ok-keying_of.request ∷ []) _ (λ gone. tt) it.2 in
+          let sent = sent_turned {Then = IsOver closed next} {Else = IsOver closed next} {Q = Unit {0}} (g.R.Recorder.failed c.send_all-in-Ok-keying_of.new.recorder)
+          first mid closed next c.args.keep_going c.args.line page_for tells (λ x e over gone. over) s (c.in-Ok-keying_of.request ∷ []) _ (λ gone. tt) it.2 in
           (it.0, it.1, (_, c.opened-file.ensures, rw c.in-ImportKeying.is (inl (c.in-Ok-keying_of.request ∷ [], read.0, sent))), it.3);
     }
 

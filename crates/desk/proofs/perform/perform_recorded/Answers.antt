@@ -10,8 +10,8 @@ returns-in-Init g c =
         page = told.page;
         cut = told.cut;
         shown = told.shown;
-        is = λ clean. rw c.in-Init.is (init_recorded (g.R.Recorder.records c.args.recorder.now) (g.R.Recorder.found c.args.recorder.now) (g.R.Recorder.failed c.args.recorder.now) (g.F.Folder.held c.args.folder.now) told.cut told.page _ _ _
-            (told.is clean (g.F.Folder.held c.args.folder.now)));
+        is = λ clean. rw c.in-Init.is (init_recorded (g.R.Recorder.records c.args.recorder.now) (g.R.Recorder.found c.args.recorder.now)
+            (g.R.Recorder.failed c.args.recorder.now) (g.F.Folder.held c.args.folder.now) told.cut told.page _ _ _ (told.is clean (g.F.Folder.held c.args.folder.now)));
       };
     }
 
@@ -23,8 +23,8 @@ returns-in-Migrate g c =
         page = told.page;
         cut = told.cut;
         shown = told.shown;
-        is = λ clean. rw c.in-Migrate.is (migrate_recorded (g.R.Recorder.records c.args.recorder.now) (g.R.Recorder.found c.args.recorder.now) (g.R.Recorder.failed c.args.recorder.now) (g.F.Folder.held c.args.folder.now) told.cut told.page _ _ _
-            (told.is clean (g.F.Folder.held c.args.folder.now)));
+        is = λ clean. rw c.in-Migrate.is (migrate_recorded (g.R.Recorder.records c.args.recorder.now) (g.R.Recorder.found c.args.recorder.now)
+            (g.R.Recorder.failed c.args.recorder.now) (g.F.Folder.held c.args.folder.now) told.cut told.page _ _ _ (told.is clean (g.F.Folder.held c.args.folder.now)));
       };
     }
 
