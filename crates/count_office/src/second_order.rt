@@ -1,7 +1,7 @@
 //! An order that is performed alone, on an office that has a second record: each request that the office accepts is appended to the
 //! record's file, and flushed, before its reply is printed.
 
-ghost use Rattle.std.specs.Prelude.{◌≡◌, ◌-◌, ◌^◌, ◌<◌};
+ghost use Rattle.std.specs.Prelude.{◌≡◌, ◌-◌, ◌^◌, ◌<◌, OnOk};
 ghost use Rattle.sqlite.specs.Held.{state};
 ghost use Rattle.tables.specs.Reading.{OnlyReads};
 ghost use Rattle.count_office.specs.Done.{IsDoneRecorded};
@@ -14,7 +14,7 @@ use crate::timed_record::TimedRecord;
 use desk::perform::perform_recorded;
 use desk::{Failure, Task, tell_failure};
 use sqlite::{Alter, Connection};
-use streams::{Counted, Sink};
+use streams::{Broken, Counted, Sink, put_all};
 
 /// A task, the files that it names, and the path of the second record.
 #[derive(Clone, Copy)]
@@ -33,8 +33,18 @@ pub fn refuse_second<E: Sink>(rt: &HostRuntime, path: &str, why: SecondFault, er
     status
 }
 
-/// Opens the file of a second record, if it holds the same as the office, which is only read. Otherwise prints how they differ, or why
-/// the file can't be used, and returns the status.
+/// Prints how the office and a second record differ, and returns the status.
+fn tell_apart<E: Sink>(errors: &[u8], status: u8, err: &mut E) -> u8
+    requires { E.failed err.old < 2 ^ 64 - 1 }
+{
+    match put_all(err, errors) {
+        Ok(()) => status,
+        Err(Broken) => 3,
+    }
+}
+
+/// Opens the file of a second record, if it holds the same as the office, which is only read; then nothing is printed. Otherwise prints
+/// how they differ, or why the file can't be used, and returns the status.
 fn open_record<S: Alter, E: Sink>(
     paths: LocalFolder<'_>,
     path: &str,
@@ -43,17 +53,25 @@ fn open_record<S: Alter, E: Sink>(
 ) -> (Result<SecondFile, u8>, Connection<S>)
     requires { E.failed err.old < 2 ^ 64 - 1 }
     ensures reads { OnlyReads (state S.Store conn) (state S.Store result.1) }
+    ensures quiet { OnOk result.0 (err.new ≡ err.old) }
 {
-    let file = match SecondFile::open(paths.rt, path) {
+    let rt = paths.rt;
+    let file = match SecondFile::open(rt, path) {
         Ok(file) => file,
-        Err(why) => return (Err(refuse_second(paths.rt, path, why, err)), conn),
+        Err(why) => return (Err(refuse_second(rt, path, why, err)), conn),
     };
-    let mut unprinted = Vec::new(paths.rt.alloc());
-    let (status, conn) = second(paths, conn, path, &mut Counted::new(&mut unprinted), err);
+    let (mut replies, mut errors) = (Vec::new(rt.alloc()), Vec::new(rt.alloc()));
+    let (status, conn) = second(
+        paths,
+        conn,
+        path,
+        &mut Counted::new(&mut replies),
+        &mut Counted::new(&mut errors),
+    );
     if status == 0 {
         (Ok(file), conn)
     } else {
-        (Err(status), conn)
+        (Err(tell_apart(errors.as_slice(), status, err)), conn)
     }
 }
 
