@@ -100,12 +100,12 @@ server_settings_of settings whole recorded =
 
 -- The settings for the order to serve: the origin that the order names, the gate for the file of codes that it names, what it shows in public, the file of the office,
 -- and whether there is a second record.
-pub record AreSettingsFor (serving : Serving) (codes_at : CodeFiles) (numbers : Option FileNumbers) (recorded : Bool) (settings : ServerSettingsEntry) : Type 0 where
+pub record AreSettingsFor (serving : Serving) (codes_at : CodeFiles) (numbers : Option FileNumbers) (has_record : Bool) (settings : ServerSettingsEntry) : Type 0 where
   pub origin : settings.clients.origin ≡ origin_setting serving.origin
   pub gate : IsGateFor codes_at (path_in serving) settings.clients.gate
   pub public : settings.clients.public ≡ public_in serving
   pub file : IfSome numbers (λ known. settings.file ≡ known)
-  pub recorded : settings.recorded ≡ recorded
+  pub recorded : settings.recorded ≡ has_record
 
 -- ---- an open office on a network
 

@@ -340,7 +340,7 @@ fn perform_at_path<O: Sink, E: Sink>(
         path,
         words,
         order,
-        second: given.second,
+        second: given.second.unwrap_or(""),
         is_successor: false,
         succession: &succession,
     };
@@ -357,12 +357,21 @@ fn takes_second(order: &Order<'_>) -> bool {
     )
 }
 
-/// Prints that an order can't have a second record, and returns the status.
+/// Returns whether an order must not have the second record that was given: the order can't have one, or the name of its file is empty.
+fn is_second_refused(second: Option<&str>, order: &Order<'_>) -> bool {
+    match second {
+        Some(path) => path.is_empty() || !takes_second(order),
+        None => false,
+    }
+}
+
+/// Prints that an order must not have the second record that was given, and returns the status.
 fn refuse_second<O: Sink, E: Sink>(alloc: Global, out: &mut O, err: &mut E) -> u8
     requires out { O.failed out.old < 2 ^ 64 - 1 }
     requires err { E.failed err.old < 2 ^ 64 - 1 }
 {
-    let text = "error: --second FILE goes with an order that changes or serves an office\n";
+    let text =
+        "error: --second FILE goes with an order that changes or serves an office, and FILE with a name\n";
     match String::from_str(alloc, text) {
         Ok(text) => tell_words(&WordsFault::Words { text, status: 2 }, out, err),
         Err(_) => tell_words(&WordsFault::Memory, out, err),
@@ -380,7 +389,7 @@ fn follow_split<O: Sink, E: Sink>(
     requires err { E.failed err.old < 2 ^ 64 - 1 }
 {
     match order(rt.alloc(), &given.words) {
-        Ok(order) if given.second.is_some() && !takes_second(&order) => {
+        Ok(order) if is_second_refused(given.second, &order) => {
             refuse_second(rt.alloc(), out, err)
         }
         Ok(

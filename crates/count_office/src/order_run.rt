@@ -16,6 +16,7 @@ use crate::screen::Screen;
 use crate::{LockedDatabase, close, dispatch_order, is_busy, order_socket, wants_progress};
 use desk::{Failure, Order, ProgressSink, Task, tell_failure};
 use sqlite::{Connection, Wary};
+use std::alloc::{AllocError, Global};
 use std::fs;
 use std::io::{self, ErrorKind, IsTerminal};
 use std::time::{Clock, Duration};
@@ -32,7 +33,7 @@ const PAUSE: u64 = 10;
 /// The number of pauses after which the program tells a person at a terminal what the order is waiting for.
 const PAUSES_UNSEEN: u32 = 50;
 
-/// An order, its words starting with DB, the path of its database, and that of a second record if one was given; whether the database is
+/// An order, its words starting with DB, the path of its database, and that of a second record, which is empty if there is none; whether the database is
 /// that of a new office that takes the place of one that was served, and what is left of that one.
 #[derive(Clone, Copy)]
 pub struct OrderRun<'a> {
@@ -40,7 +41,7 @@ pub struct OrderRun<'a> {
     pub path: &'a str,
     pub words: &'a [&'a str],
     pub order: &'a Order<'a>,
-    pub second: Option<&'a str>,
+    pub second: &'a str,
     pub is_successor: bool,
     pub succession: &'a Succession,
 }
@@ -163,7 +164,7 @@ fn hand_over<O: Sink, E: Sink>(
         return Err(LockHolder::Order);
     };
     // The program that serves the database doesn't append to the second record of an order.
-    if request.second.is_some() {
+    if !request.second.is_empty() {
         return Ok(tell_failure(Failure::BeingServed, err));
     }
     match send_order(request.rt, database, order_files) {
@@ -181,6 +182,15 @@ fn is_locked_by_other(rt: &HostRuntime, database: &str, error: &io::Error) -> bo
             fs::symlink_metadata(rt, database).is_ok_and(|found| found.is_file())
         }
         _ => false,
+    }
+}
+
+/// Returns the path of an order's second record, if there is one.
+fn second_of<'a>(request: OrderRun<'a>) -> Option<&'a str> {
+    if request.second.is_empty() {
+        None
+    } else {
+        Some(request.second)
     }
 }
 
@@ -204,7 +214,7 @@ fn perform_locked<O: Sink, E: Sink>(
         found,
         lock,
         brought,
-        second: request.second,
+        second: second_of(request),
         is_successor: request.is_successor,
         succession: request.succession,
     };
@@ -291,7 +301,7 @@ fn perform_with_retries<O: Sink, E: Sink>(request: OrderRun<'_>, out: &mut O, er
     status
 }
 
-/// Performs an order on the database at a path, and prints nothing but what the order itself prints. Returns its status; `None` if
+/// Performs an order on the database at a path, without a second record, and prints nothing but what the order itself prints. Returns its status; `None` if
 /// another program has locked the file for half a second.
 pub fn perform_quietly<O: Sink, E: Sink>(
     request: OrderRun<'_>,
@@ -301,6 +311,10 @@ pub fn perform_quietly<O: Sink, E: Sink>(
     requires out { O.failed out.old < 2 ^ 64 - 1 }
     requires err { E.failed err.old < 2 ^ 64 - 1 }
 {
+    let request = OrderRun {
+        second: "",
+        ..request
+    };
     let mut brought = None;
     for _ in 0..PAUSES_UNSEEN {
         if let Ok(status) = attempt(request, &mut brought, out, err) {
@@ -311,11 +325,20 @@ pub fn perform_quietly<O: Sink, E: Sink>(
     None
 }
 
-/// A new office that took the place of one that was served: the path of its database, and that of its second record, if it has one.
+/// A new office that took the place of one that was served: the path of its database, and that of its second record, which is empty if
+/// there is none.
 #[derive(Drop)]
 struct Successor {
     path: String,
-    second: Option<String>,
+    second: String,
+}
+
+/// Returns the path of another second record; an empty one if there is none.
+fn numbered(alloc: Global, path: &str, number: u64) -> Result<String, AllocError> {
+    if path.is_empty() {
+        return Ok(String::new(alloc));
+    }
+    format!(in alloc; "{path}-{number}")
 }
 
 impl Successor {
@@ -331,21 +354,17 @@ impl Successor {
             }
             _ => return Err(Failure::FileGone),
         };
-        let second = match request.second {
-            Some(first) => match format!(in rt.alloc(); "{first}-{number}") {
-                Ok(second) => Some(second),
-                Err(_) => return Err(Failure::Office(Fault::Memory)),
-            },
-            None => None,
-        };
-        Ok(Successor { path, second })
+        match numbered(rt.alloc(), request.second, number) {
+            Ok(second) => Ok(Successor { path, second }),
+            Err(AllocError) => Err(Failure::Office(Fault::Memory)),
+        }
     }
 
     /// Returns the order for this office.
     fn run<'a>(&'a self, request: OrderRun<'a>) -> OrderRun<'a> {
         OrderRun {
             path: self.path.as_str(),
-            second: self.second.as_ref().map(|path| path.as_str()),
+            second: self.second.as_str(),
             is_successor: true,
             ..request
         }

@@ -101,9 +101,8 @@ fn answer(run: OrderRun<'_>, question: &[&str]) -> Option<String> {
     let alloc = run.rt.alloc();
     let order = order(alloc, question).ok()?;
     let asked = OrderRun {
-        words: &*question,
+        words: question,
         order: &order,
-        second: None,
         ..run
     };
     let (mut answer, mut errors) = (Vec::new(alloc), Vec::new(alloc));

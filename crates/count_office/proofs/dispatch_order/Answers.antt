@@ -47,9 +47,18 @@ returns-in-Mend-clause-mends g c = λ asked is.
     (λ _ page. HasCleanDisk (state g.S.Store c.mend.result.1) → (db : Database) → RestsAt db (state g.S.Store c.args.conn) → (s : OfficeState) → IsLeftAt s db → IsMendPage s m page))
     (cc) c.mend.ensures.told
 
+-- the path of an order to compare the office with a second record
+path_in : Bor (List ℕ) → Order → Bor (List ℕ)
+path_in none (order.Second path) = path
+path_in none other = none
+
+same_path : (one other : Bor (List ℕ)) → order.Second one ≡ order.Second other → one ≡ other
+unfolding path_in
+same_path one other same = ap (path_in one) same
+
 pub returns-in-Second-clause-seconds : goal.returns-in-Second-clause-seconds
 returns-in-Second-clause-seconds g c = λ path is.
     let outputs = outputs_of g.O.Sink.taken g.O.Sink.failed g.E.Sink.taken g.E.Sink.failed in
     subst (λ (p : Bor (List ℕ)). Tells (outputs c.args.out.now c.args.err.now) (outputs c.second.new.out c.second.new.err) c.second.result.0
     (λ _ page. HasCleanDisk (state g.S.Store c.second.result.1) → (db : Database) → RestsAt db (state g.S.Store c.args.conn) → (s : OfficeState) → IsLeftAt s db → IsSecondPage s p.now page))
-    (cc) c.second.ensures.told
+    (same_path c.in-Second.path path (sym c.in-Second.is ∙ is)) c.second.ensures.told
