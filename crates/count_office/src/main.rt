@@ -315,10 +315,10 @@ fn close<D: Disk + Drop>(conn: Connection<FileStore<D>>) -> Option<Files<D>>
 }
 
 /// Performs an order on the database that the first word names, and returns the status.
-fn perform_at_path<O: Sink, E: Sink>(
-    rt: &HostRuntime,
-    given: &SplitWords<'_>,
-    order: &Order<'_>,
+fn perform_at_path<'a, O: Sink, E: Sink>(
+    rt: &'a HostRuntime,
+    given: &'a SplitWords<'a>,
+    order: &'a Order<'a>,
     out: &mut O,
     err: &mut E,
 ) -> u8
@@ -407,7 +407,7 @@ fn follow_split<O: Sink, E: Sink>(
             make_codes_file(rt, asked, out, err)
         }
         Ok(Order::Slips { path, address }) => print_slips(rt, path, address, out, err),
-        Ok(order) => perform_at_path(rt, given, &order, out, err),
+        Ok(order) => perform_at_path(rt, &*given, &order, out, err),
         Err(fault) => tell_words(&fault, out, err),
     }
 }

@@ -10,8 +10,8 @@ use Rattle.count_office.specs.Serving.{MayServe}
 use Rattle.count_office.proofs.ServingLemmas.{IsGivenBy, served_on}
 use Rattle.count_office.proofs.serving.serve_at.Goals as goal
 
-pub returns-in-Ok-open : goal.returns-in-Ok-open
-returns-in-Ok-open g c =
+pub returns : goal.returns
+returns g c =
     let serving = c.args.given.serving in
     let gate_files = c.args.given.gate_files.now in
     let line = stream_of g.H.Sockets.Stream.Stream.held g.H.Sockets.Stream.Stream.taken g.H.Sockets.Stream.Stream.failed in
