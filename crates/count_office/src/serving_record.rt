@@ -22,6 +22,13 @@ use std::fs;
 use store::Fault;
 use streams::{Counted, Sink};
 
+/// A locked database, and the path of a new second record of its office.
+#[derive(Clone, Copy)]
+struct RecordedPlace<'a> {
+    place: LockedDatabase<'a>,
+    path: &'a str,
+}
+
 /// Appends the line that follows the journal.
 fn put_start(rt: &HostRuntime, text: &mut Vec<u8>) -> Result<(), AllocError> {
     let time = time_of_day(rt)?;
@@ -59,13 +66,13 @@ fn beginning_of<S: Alter>(
 /// Begins a second record of the office on a connection, which is only read, in a new file. If that fails, prints why and returns the
 /// status; nothing is left of the file then.
 fn begin<'a, S: Alter>(
-    place: LockedDatabase<'a>,
-    path: &'a str,
+    asked: RecordedPlace<'a>,
     conn: Connection<S>,
 ) -> (Result<TimedRecord<'a>, u8>, Connection<S>)
     ensures reads { OnlyReads (state S.Store conn) (state S.Store result.1) }
     ensures whole { IfOk result.0 (λ its. has_failed its ≡ false) }
 {
+    let RecordedPlace { place, path } = asked;
     let rt = place.rt;
     let (text, conn) = beginning_of(rt, conn);
     let text = match text {
@@ -84,8 +91,7 @@ fn begin<'a, S: Alter>(
 /// Serves as [`serve`] does, with a second record in a new file at a path. If it can't be begun, prints why, and serves nothing. If nothing is
 /// served for another reason, the file is removed again.
 fn serve_with_record<H: Host, S: Alter, E: Sink>(
-    place: LockedDatabase<'_>,
-    path: &str,
+    asked: RecordedPlace<'_>,
     host: &mut H,
     serving: Serving<'_>,
     conn: Connection<S>,
@@ -95,7 +101,8 @@ fn serve_with_record<H: Host, S: Alter, E: Sink>(
     ensures { ServesInRecord has_failed (IsErrorTold E.taken E.failed err.old err.new) (err.new ≡ err.old) result.0 serving.entry (H.codes_at host.old) (H.file host.old)
         (stream_of H.Sockets.Stream.held H.Sockets.Stream.taken H.Sockets.Stream.failed) (state S.Store) (H.known host.old) (H.known host.new) conn result.1 }
 {
-    let (begun, conn) = begin(place, path, conn);
+    let RecordedPlace { place, path } = asked;
+    let (begun, conn) = begin(asked, conn);
     let record = match begun {
         Ok(record) => record,
         Err(status) => return (status, conn),
@@ -125,7 +132,7 @@ pub fn serve_in_place<H: Host, S: Alter, E: Sink>(
         (stream_of H.Sockets.Stream.held H.Sockets.Stream.taken H.Sockets.Stream.failed) (state S.Store) (H.known host.old) (H.known host.new) conn result.1 }
 {
     match place.second {
-        Some(path) => serve_with_record(place, path, host, serving, conn, err),
+        Some(path) => serve_with_record(RecordedPlace { place, path }, host, serving, conn, err),
         None => {
             let (status, conn, NoRecord) = serve(
                 place.rt.alloc(),
