@@ -103,16 +103,16 @@ fn serve_with_record<H: Host, S: Alter, E: Sink>(
 {
     let RecordedPlace { place, path } = asked;
     let (begun, conn) = begin(asked, conn);
-    let record = match begun {
-        Ok(record) => record,
+    let recorder = match begun {
+        Ok(recorder) => recorder,
         Err(status) => return (status, conn),
     };
     if place.is_successor {
         tell_recording(place.rt, path);
     }
     place.succession.is_open.set(false);
-    let (status, conn, record) = serve(place.rt.alloc(), host, serving, conn, record, err);
-    drop(record);
+    let (status, conn, recorder) = serve(place.rt.alloc(), host, serving, conn, recorder, err);
+    drop(recorder);
     if !place.succession.is_open.get() {
         let _ = fs::remove_file(place.rt, path);
     }

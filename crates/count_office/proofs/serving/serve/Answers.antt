@@ -15,7 +15,7 @@ returns g c =
     let line = stream_of g.H.Sockets.Stream.Stream.held g.H.Sockets.Stream.Stream.taken g.H.Sockets.Stream.Stream.failed in
     let view = served_view (state g.S.Store) g.R.Recorder.found g.R.Recorder.failed in
     let recorded = g.R.Recorder.records c.args.recorder in
-    let served = c.serve_at in
+    let served = c.serve_at-outcome in
     let opened = c.in-Ok-open_from in
     subst
     (λ conn. ServesOrder tells quiet c.tell_outcome-status.result c.args.serving (g.H.Host.codes_at c.args.host.now) (g.H.Host.file c.args.host.now) recorded line view

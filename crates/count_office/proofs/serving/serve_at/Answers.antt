@@ -19,11 +19,11 @@ returns g c =
     let recorded = g.R.Recorder.records c.args.recorder in
     let known = g.H.Host.known in
     let found = c.in-Ok-open in
-    let through = c.serve_through in
+    let through = c.serve_through-ended in
     subst (λ (outcome : Result (Unit {0}) Failure). MayServe (IsGivenBy serving gate_files (g.H.Host.file c.args.host.now) recorded) line view serving.port
     (known c.args.host.now) (known c.close.new.self) serving.connections c.args.office.now through.new.office c.args.recorder outcome through.result.1) (sym c.outcome_of.ensures)
     (served_on serving gate_files (option_map public_entry c.public_of.result)
     (g.H.Host.file c.args.host.now) found.opened.file (g.H.OfficeFile.ServedFile.whole found.opened.served_file) recorded line
     view (known c.args.host.now) (known c.open.new.self) (known c.close.new.self)
     (g.H.Sockets.Network.known found.opened.network) (g.H.Sockets.Network.known through.new.network) c.args.office.now through.new.office c.args.recorder through.result.0 through.result.1
-    found.ensures.same found.ensures.known c.close.ensures.known c.close.ensures.others found.ensures.file (c.public_of.ensures ∙ c.in-Ok-public_texts.ensures) through.ensures)
+    found.ensures.same found.ensures.known c.close.ensures.known c.close.ensures.others found.ensures.file (c.public_of.ensures ∙ c.in-Ok.ensures) through.ensures)
