@@ -176,6 +176,23 @@ def bench_ballots(room, lines=1000000, lists=73000, *, other=""):
             table.row(who, f"{len(content) / 1e6:.1f}", f"{min(run[1] for run in runs):.2f}", f"{max(run[2] for run in runs):.0f}")
     wrong_if(len(texts) > 1, f"{len(texts)} sheets of the same papers")
 
+RECORDED = 1.5
+
+def bench_second(room, rounds=20):
+    """Times keyings of an office that is served with a second record, and without: the middle of five turns, which takes at most 1.5 times.
+
+    One clerk keys ROUNDS batches of five papers over HTTP, one after the other. Both files are in one folder, on one disk.
+    """
+    found = {(): [], ("--second", "town.script"): []}
+    for turn in range(TURNS):
+        for words, times in found.items():
+            made, requests = office_to_key(room / f"{turn}-{len(words)}", rounds, 5)
+            with made.serve(*words).wait() as serving:
+                times.append(1000 / keyed(serving, [requests[1]])[0])
+    alone, recorded = (sorted(times)[TURNS // 2] for times in found.values())
+    Table("A keying of five papers", "without a second record", "with one").row("takes", f"{alone:.1f} ms", f"{recorded:.1f} ms")
+    wrong_if(recorded > RECORDED * alone, f"with a second record a keying takes more than {RECORDED} times as long")
+
 SIZES, RATES, RECOMMENDED, MOST = (25, 50, 75, 100), (0.003, 0.005, 0.01, 0.02), (50, 0.01), 2.6
 
 def keyed_anew(rate, size):

@@ -7,3 +7,4 @@ pub mod Serving
 pub mod CopyPaths
 pub mod Remarks
 pub mod SecondWords
+pub mod Records

@@ -1,5 +1,5 @@
 -- Serving an office on a host: its settings, and the outcome of the order to serve.
-use Rattle.std.specs.Prelude.{◌≡◌, ◌≢◌, ◌⊎◌, ℕ, Bool, true, false, List, IfSome, None, Option, Some, Result, Ok, Err, option_map, string_bytes}
+use Rattle.std.specs.Prelude.{◌≡◌, ◌≢◌, ◌⊎◌, ◌++◌, ℕ, Bool, true, false, List, IfSome, None, Option, Some, Result, Ok, Err, length, option_map, string_bytes}
 use Rattle.sqlite.specs.Effect.{Database}
 use Rattle.sqlite.specs.Held.{Held}
 use Rattle.sqlite.specs.State.{HasCleanDisk, State}
@@ -31,13 +31,15 @@ use Rattle.wire.specs.Origins.{origin_setting}
 use Rattle.desk.specs.Pages.{Page, codes_page, failed}
 use Rattle.desk.specs.declared.lines.Failure.{Failure}
 use Rattle.desk.specs.declared.lines.Failure.TheVariants.{Office, Output}
-use Rattle.server.specs.Servers.{IsEndedBy, ServesConnections}
+use Rattle.server.specs.Servers.{IsEndedBy, ServesRecorded, view_without_record}
 use Rattle.server.specs.Settings.{ServerSettingsEntry}
-use Rattle.server.specs.Exchanges.{KeepsExchanges}
+use Rattle.server.specs.Exchanges.{KeepsExchanges, KeepsInRecord}
+use Rattle.server.specs.RecordChanges.{ServedView, served_view}
 use Rattle.server.specs.declared.serve_error.ServeError.{ServeError}
 use Rattle.server.specs.declared.serve_error.ServeError.TheVariants as ended
 use Rattle.server.specs.declared.server_settings.FileNumbers.{FileNumbers}
 use Rattle.count_office.specs.Hosts.{CodeFiles, IsReadAs}
+use Rattle.count_office.specs.Records.{has_failed}
 use Rattle.count_office.specs.declared.gate.GateFiles.{GateFiles}
 use Rattle.count_office.specs.declared.public.PublicTexts.{PublicTexts}
 use Rattle.count_office.specs.declared.serving.Serving.{Serving}
@@ -86,31 +88,34 @@ public_at texts = record { title = texts.title.now; screen = page_with (string_b
 abbrev pub public_in : Serving → Option PublicEntry
 public_in serving = option_map (λ title. public_with title.now) serving.public
 
--- the settings, given an origin, a gate, what is shown in public, a file, and whether that file is permanently known to be whole
-abbrev pub settings_with : Option (List ℕ) → Option GateEntry → Option PublicEntry → FileNumbers → Option Bool → ServerSettingsEntry
-settings_with origin gate public file whole = record { clients = record { origin = origin; gate = gate; public = public }; file = file; whole = whole; recorded = false }
+-- the settings, given an origin, a gate, what is shown in public, a file, whether that file is permanently known to be whole, and whether there is a second record
+abbrev pub settings_with : Option (List ℕ) → Option GateEntry → Option PublicEntry → FileNumbers → Option Bool → Bool → ServerSettingsEntry
+settings_with origin gate public file whole recorded =
+    record { clients = record { origin = origin; gate = gate; public = public }; file = file; whole = whole; recorded = recorded }
 
 -- the settings of the server
-abbrev pub server_settings_of : ServeSettings → Option Bool → ServerSettingsEntry
-server_settings_of settings whole =
-    settings_with (origin_setting settings.serving.origin) (option_map gate_at settings.gate_files.now) (option_map public_entry settings.public) settings.file whole
+abbrev pub server_settings_of : ServeSettings → Option Bool → Bool → ServerSettingsEntry
+server_settings_of settings whole recorded =
+    settings_with (origin_setting settings.serving.origin) (option_map gate_at settings.gate_files.now) (option_map public_entry settings.public) settings.file whole recorded
 
--- The settings for the order to serve: the origin that the order names, the gate for the file of codes that it names, what it shows in public, and the file of the office.
-pub record AreSettingsFor (serving : Serving) (codes_at : CodeFiles) (numbers : Option FileNumbers) (settings : ServerSettingsEntry) : Type 0 where
+-- The settings for the order to serve: the origin that the order names, the gate for the file of codes that it names, what it shows in public, the file of the office,
+-- and whether there is a second record.
+pub record AreSettingsFor (serving : Serving) (codes_at : CodeFiles) (numbers : Option FileNumbers) (has_record : Bool) (settings : ServerSettingsEntry) : Type 0 where
   pub origin : settings.clients.origin ≡ origin_setting serving.origin
   pub gate : IsGateFor codes_at (path_in serving) settings.clients.gate
   pub public : settings.clients.public ≡ public_in serving
   pub file : IfSome numbers (λ known. settings.file ≡ known)
+  pub recorded : settings.recorded ≡ has_record
 
 -- ---- an open office on a network
 
--- An open office was served on a network, with the given result.
-pub record ServesAtNetwork {L S : Type 0} (settings : ServerSettingsEntry) (stream : Stream L) (state_of : Held S → State) (before later : NetworkEntry L) (most : Option ℕ)
-    (old new : OfficeValue S) (ends : Result (Unit {0}) ServeError) : Type 0 where
-  pub serves : ServesConnections settings stream state_of before later most old new ends
+-- An open office was served on a network, with the given result. The office and its second record, if there is one, are as specified.
+pub record ServesAtNetwork {L S R : Type 0} (settings : ServerSettingsEntry) (stream : Stream L) (view : ServedView S R) (before later : NetworkEntry L) (most : Option ℕ)
+    (old new : OfficeValue S) (recorder : R) (ends : Result (Unit {0}) ServeError) (recorder_later : R) : Type 0 where
+  pub serves : ServesRecorded settings stream view before later most old new recorder ends recorder_later
   pub ended : IsEndedBy before later ends
   pub closed : old.closed ≡ true → new ≡ old
-  pub clean : HasCleanDisk (state_of new.held) → HasCleanDisk (state_of old.held)
+  pub clean : HasCleanDisk (view.state_of new.held) → HasCleanDisk (view.state_of old.held)
 
 -- the failure to print for a result; there is none if a new office took the place of the one that was served
 abbrev pub outcome_by : Result (Unit {0}) ServeError → Result (Unit {0}) Failure
@@ -124,14 +129,14 @@ outcome_by (Err ended.Rounds) = Err Output
 abbrev pub IsElsewhereSame : {L : Type 0} → ℕ → (ℕ → NetworkEntry L) → (ℕ → NetworkEntry L) → Type 0
 IsElsewhereSame port before later = (other : ℕ) → other ≢ port → later other ≡ before other
 
--- The network on a port couldn't be opened, or an allocation failed: no connection was accepted, and the office is as it was. Or the office was served on that port,
--- with the given settings, and on no other port.
-abbrev pub MayServe : {L S : Type 0} → (ServerSettingsEntry → Type 0) → Stream L → (Held S → State) → ℕ → (ℕ → NetworkEntry L) → (ℕ → NetworkEntry L) → Option ℕ
-    → OfficeValue S → OfficeValue S → Result (Unit {0}) Failure → Type 0
-MayServe AreSettings stream state_of port before later most old new outcome =
-    ((failure : Failure) × (outcome ≡ Err failure) × (later ≡ before) × (new ≡ old))
-    ⊎ ((settings : ServerSettingsEntry) × (ends : Result (Unit {0}) ServeError) × AreSettings settings × ServesAtNetwork settings stream state_of (before port) (later port) most old new ends
-    × IsElsewhereSame port before later × (outcome ≡ outcome_by ends))
+-- The network on a port couldn't be opened, or an allocation failed: no connection was accepted, and the office and its record are as they were. Or the office was
+-- served on that port, with the given settings, and on no other port.
+abbrev pub MayServe : {L S R : Type 0} → (ServerSettingsEntry → Type 0) → Stream L → ServedView S R → ℕ → (ℕ → NetworkEntry L) → (ℕ → NetworkEntry L) → Option ℕ
+    → OfficeValue S → OfficeValue S → R → Result (Unit {0}) Failure → R → Type 0
+MayServe AreSettings stream view port before later most old new recorder outcome recorder_later =
+    ((failure : Failure) × (outcome ≡ Err failure) × (later ≡ before) × (new ≡ old) × (recorder_later ≡ recorder))
+    ⊎ ((settings : ServerSettingsEntry) × (ends : Result (Unit {0}) ServeError) × AreSettings settings
+    × ServesAtNetwork settings stream view (before port) (later port) most old new recorder ends recorder_later × IsElsewhereSame port before later × (outcome ≡ outcome_by ends))
 
 -- ---- the order to serve
 
@@ -145,22 +150,26 @@ abbrev pub TellsOutcome : (List ℕ → ℕ → ℕ → Type 0) → Type 0 → �
 TellsOutcome Tells Quiet status (Ok end) = Quiet × (status ≡ 0)
 TellsOutcome Tells Quiet status (Err failure) = Tells (failed failure).err 3 status
 
--- The codes couldn't be read: no connection was accepted, and the connection to the database is unchanged.
-pub record IsUnread {L S : Type 0} (Tells : List ℕ → ℕ → ℕ → Type 0) (status : ℕ) (serving : Serving) (codes_at : CodeFiles) (before later : ℕ → NetworkEntry L) (old new : Held S) : Type 0 where
+-- The codes couldn't be read: no connection was accepted, and the connection to the database and the record are unchanged.
+pub record IsUnread {L S R : Type 0} (Tells : List ℕ → ℕ → ℕ → Type 0) (status : ℕ) (serving : Serving) (codes_at : CodeFiles) (before later : ℕ → NetworkEntry L) (old new : Held S)
+    (recorder recorder_later : R) : Type 0 where
   pub why : CodesError
   pub unread : IsUngated codes_at (path_in serving) why
   pub told : Tells (untaken why).err (untaken why).status status
   pub nobody : later ≡ before
   pub same : new ≡ old
+  pub same_record : recorder_later ≡ recorder
 
--- The office couldn't be opened: no connection was accepted, and the database is unchanged. The fault is one that opening can fail with in that state.
-pub record IsUnopened {L S : Type 0} (Tells : List ℕ → ℕ → ℕ → Type 0) (status : ℕ) (state_of : Held S → State) (before later : ℕ → NetworkEntry L) (old new : Held S) : Type 0 where
+-- The office couldn't be opened: no connection was accepted, and the database and the record are unchanged. The fault is one that opening can fail with in that state.
+pub record IsUnopened {L S R : Type 0} (Tells : List ℕ → ℕ → ℕ → Type 0) (status : ℕ) (state_of : Held S → State) (before later : ℕ → NetworkEntry L) (old new : Held S)
+    (recorder recorder_later : R) : Type 0 where
   pub why : Fault
   pub told : Tells (failed (Office why)).err 3 status
   pub nobody : later ≡ before
   pub reads : OnlyReads (state_of old) (state_of new)
   pub is : HasCleanDisk (state_of new) → (db : Database) → IsOurs db.schema → RestsAt db (state_of old) → IsFaultOf db why
   pub cause : HasCleanDisk (state_of new) → (db : Database) → RestsAt db (state_of old) → (s : OfficeState) → IsLeftAt s db → FailsBy (state_of old) (state_of new) why
+  pub same_record : recorder_later ≡ recorder
 
 -- The office on the given connection was opened, in the state that its database had, and nothing changed.
 pub record IsOpenedFrom {S : Type 0} (state_of : Held S → State) (conn : Held S) (office : OfficeValue S) : Type 0 where
@@ -168,47 +177,70 @@ pub record IsOpenedFrom {S : Type 0} (state_of : Held S → State) (conn : Held 
   pub reads : OnlyReads (state_of conn) (state_of office.held)
   pub at : HasCleanDisk (state_of office.held) → (db : Database) → RestsAt db (state_of conn) → (s : OfficeState) → IsLeftAt s db → IsOpenAt s office.closed (state_of office.held)
 
--- The office was opened, but its network couldn't be opened: no connection was accepted, and the office is as it was when it was opened.
-pub record IsShut {L S : Type 0} (Tells : List ℕ → ℕ → ℕ → Type 0) (status : ℕ) (state_of : Held S → State) (before later : ℕ → NetworkEntry L) (old new : Held S) : Type 0 where
+-- The office was opened, but its network couldn't be opened: no connection was accepted, and the office and its record are as they were when the office was opened.
+pub record IsShut {L S R : Type 0} (Tells : List ℕ → ℕ → ℕ → Type 0) (status : ℕ) (state_of : Held S → State) (before later : ℕ → NetworkEntry L) (old new : Held S)
+    (recorder recorder_later : R) : Type 0 where
   pub office : OfficeValue S
   pub opened : IsOpenedFrom state_of old office
   pub why : Failure
   pub told : Tells (failed why).err 3 status
   pub nobody : later ≡ before
   pub same : new ≡ office.held
+  pub same_record : recorder_later ≡ recorder
 
 -- The office was opened, and served on its network with the given settings. If the database had the state after earlier requests, what is kept of those and of the
--- requests that arrived is as specified.
-pub record IsServed {L S : Type 0} (Tells : List ℕ → ℕ → ℕ → Type 0) (Quiet : Type 0) (status : ℕ) (AreSettings : ServerSettingsEntry → Type 0) (stream : Stream L) (state_of : Held S → State)
-    (port : ℕ) (before later : ℕ → NetworkEntry L) (most : Option ℕ) (old new : Held S) : Type 0 where
+-- requests that arrived is as specified; and so is what its second record keeps, if that led to the same state.
+pub record IsServed {L S R : Type 0} (Tells : List ℕ → ℕ → ℕ → Type 0) (Quiet : Type 0) (status : ℕ) (AreSettings : ServerSettingsEntry → Type 0) (stream : Stream L) (view : ServedView S R)
+    (port : ℕ) (before later : ℕ → NetworkEntry L) (most : Option ℕ) (old new : Held S) (recorder recorder_later : R) : Type 0 where
   pub office : OfficeValue S
-  pub opened : IsOpenedFrom state_of old office
+  pub opened : IsOpenedFrom view.state_of old office
   pub settings : ServerSettingsEntry
   pub are_settings : AreSettings settings
   pub closed : Bool
   pub ends : Result (Unit {0}) ServeError
   pub told : TellsOutcome Tells Quiet status (outcome_by ends)
-  pub at_network : ServesAtNetwork settings stream state_of (before port) (later port) most office (record { held = new; closed = closed }) ends
+  pub at_network : ServesAtNetwork settings stream view (before port) (later port) most office (record { held = new; closed = closed }) recorder ends recorder_later
   pub elsewhere : IsElsewhereSame port before later
-  pub keeps : HasCleanDisk (state_of new) → (db : Database) → RestsAt db (state_of old) → (earlier : List Request) → IsLeftAt (after empty_office earlier) db
-      → KeepsExchanges state_of settings earlier at_network.serves.exchanges closed (state_of new)
+  pub keeps : HasCleanDisk (view.state_of new) → (db : Database) → RestsAt db (view.state_of old) → (earlier : List Request) → IsLeftAt (after empty_office earlier) db
+      → (kept : KeepsExchanges view.state_of settings earlier at_network.serves.exchanges closed (view.state_of new))
+      × KeepsInRecord (view.found recorder) (view.found recorder_later) earlier (kept.answered ++ kept.last) (length kept.answered)
 
--- The outcome of the order to serve: the codes couldn't be read, or the office or its network couldn't be opened; or the office was served.
-abbrev pub ServesOrder : {L S : Type 0} → (List ℕ → ℕ → ℕ → Type 0) → Type 0 → ℕ → Serving → CodeFiles → Option FileNumbers → Stream L → (Held S → State)
+-- The outcome of the order to serve, with a recorder: the codes couldn't be read, or the office or its network couldn't be opened; or the office was served.
+abbrev pub ServesOrder : {L S R : Type 0} → (List ℕ → ℕ → ℕ → Type 0) → Type 0 → ℕ → Serving → CodeFiles → Option FileNumbers → Bool → Stream L → ServedView S R
+    → (ℕ → NetworkEntry L) → (ℕ → NetworkEntry L) → Held S → Held S → R → R → Type 0
+ServesOrder Tells Quiet status serving codes_at file recorded stream view before later old new recorder recorder_later =
+    (IsUnread Tells status serving codes_at before later old new recorder recorder_later ⊎ IsUnopened Tells status view.state_of before later old new recorder recorder_later)
+    ⊎ (IsShut Tells status view.state_of before later old new recorder recorder_later
+    ⊎ IsServed Tells Quiet status (AreSettingsFor serving codes_at file recorded) stream view serving.port before later serving.connections old new recorder recorder_later)
+
+-- ---- with or without the file of a second record
+
+-- The order to serve with a second record in a file on this machine, about whose bytes nothing is known. The record couldn't be begun: no connection was accepted, and
+-- the office was only read. Or it was begun, and the order was performed with it, on the office as it was read.
+abbrev pub ServesInRecord : {L S R : Type 0} → (R → Bool) → (List ℕ → ℕ → ℕ → Type 0) → Type 0 → ℕ → Serving → CodeFiles → Option FileNumbers → Stream L → (Held S → State)
     → (ℕ → NetworkEntry L) → (ℕ → NetworkEntry L) → Held S → Held S → Type 0
-ServesOrder Tells Quiet status serving codes_at file stream state_of before later old new =
-    (IsUnread Tells status serving codes_at before later old new ⊎ IsUnopened Tells status state_of before later old new)
-    ⊎ (IsShut Tells status state_of before later old new
-    ⊎ IsServed Tells Quiet status (AreSettingsFor serving codes_at file) stream state_of serving.port before later serving.connections old new)
+ServesInRecord {L} {S} {R} has_failed Tells Quiet status serving codes_at file stream state_of before later old new =
+    ((later ≡ before) × OnlyReads (state_of old) (state_of new))
+    ⊎ ((read : Held S) × (recorder : R) × (recorder_later : R) × OnlyReads (state_of old) (state_of read) × (has_failed recorder ≡ false)
+    × ServesOrder Tells Quiet status serving codes_at file true stream (served_view state_of (λ its text. ⊥) has_failed) before later read new recorder recorder_later)
+
+-- The order to serve, with the file of a second record or without one.
+abbrev pub ServesWith : {Path L S : Type 0} → Option Path → (List ℕ → ℕ → ℕ → Type 0) → Type 0 → ℕ → Serving → CodeFiles → Option FileNumbers → Stream L → (Held S → State)
+    → (ℕ → NetworkEntry L) → (ℕ → NetworkEntry L) → Held S → Held S → Type 0
+ServesWith None Tells Quiet status serving codes_at file stream state_of before later old new =
+    ServesOrder Tells Quiet status serving codes_at file false stream (view_without_record state_of) before later old new (record {}) (record {})
+ServesWith (Some path) Tells Quiet status serving codes_at file stream state_of before later old new =
+    ServesInRecord has_failed Tells Quiet status serving codes_at file stream state_of before later old new
 
 -- ---- an office that takes the place of another
 
 -- Two lists are kept, one after the other. The first is that of the old office, up to the switch: `keeps` of IsServed says what is kept of it. The second is that of the
 -- new office: the list that mending the first one made, followed by what the new office accepts. If the new office was opened in a database that has the state to which
 -- the mended list leads, what is kept of both parts of it is as specified. That the database has this state, in which it was made, is a premise.
-abbrev pub MendedIsKept : {L S : Type 0} → Stream L → (Held S → State) → Type 0
-MendedIsKept {L} {S} stream state_of =
-    (changes : Changes) → IsMended changes (mended changes) → (db : Database) (conn : Held S) (old new : OfficeValue S) → RestsAt db (state_of conn)
-    → IsLeftAt (mended changes).state db → IsOpenedFrom state_of conn old → (settings : ServerSettingsEntry) (before later : NetworkEntry L) (most : Option ℕ)
-    (ends : Result (Unit {0}) ServeError) (at_network : ServesAtNetwork settings stream state_of before later most old new ends)
-    → HasCleanDisk (state_of new.held) → KeepsExchanges state_of settings (mended changes).sent at_network.serves.exchanges new.closed (state_of new.held)
+abbrev pub MendedIsKept : {L S R : Type 0} → Stream L → ServedView S R → Type 0
+MendedIsKept {L} {S} {R} stream view =
+    (changes : Changes) → IsMended changes (mended changes) → (db : Database) (conn : Held S) (old new : OfficeValue S) → RestsAt db (view.state_of conn)
+    → IsLeftAt (mended changes).state db → IsOpenedFrom view.state_of conn old → (settings : ServerSettingsEntry) (before later : NetworkEntry L) (most : Option ℕ)
+    (ends : Result (Unit {0}) ServeError) (recorder recorder_later : R)
+    (at_network : ServesAtNetwork settings stream view before later most old new recorder ends recorder_later)
+    → HasCleanDisk (view.state_of new.held) → KeepsExchanges view.state_of settings (mended changes).sent at_network.serves.exchanges new.closed (view.state_of new.held)

@@ -134,16 +134,13 @@ pub fn print_slips<O: Sink, E: Sink>(
 }
 
 /// Writes a text to a new file that only its owner may read. Removes the file if the text can't be written completely.
-pub fn write_new(rt: &HostRuntime, path: &str, text: &str) -> io::Result<()> {
+pub fn write_new(rt: &HostRuntime, path: &str, text: &[u8]) -> io::Result<()> {
     let mut file = OpenOptions::new()
         .write(true)
         .create_new(true)
         .mode(RIGHTS_OF_ITS_OWNER)
         .open(rt, path)?;
-    match file
-        .write_all(text.as_bytes())
-        .and_then(|_| file.sync_all())
-    {
+    match file.write_all(text).and_then(|_| file.sync_all()) {
         Ok(()) => Ok(()),
         Err(error) => {
             let _ = fs::remove_file(rt, path);
@@ -216,7 +213,7 @@ pub fn make_codes_file<O: Sink, E: Sink>(
         Ok(text) => text,
         Err(why) => return tell_untaken(why, err),
     };
-    match write_new(rt, asked.path, text.as_str()) {
+    match write_new(rt, asked.path, text.as_bytes()) {
         Ok(()) => tell_made(asked.with_office, clerks.count() as u32, out, err),
         Err(_) => tell_codes_fault(CodesFault::Unmade, err),
     }

@@ -36,10 +36,12 @@ pub struct Localhost<'a> {
     streams: Option<Vec<File>>,
 }
 
-/// What is left of an office that was served and has moved: whether there was one, and the listeners on its port, which stay open.
-/// So no other program gets the port, and clients that connect meanwhile are served by the new office.
+/// Whether the network of an office has been opened, so that it may have been served. Also what is left of an office that was served and
+/// has moved: whether there was one, and the listeners on its port, which stay open. So no other program gets the port, and clients that
+/// connect meanwhile are served by the new office.
 #[derive(Drop)]
 pub struct Succession {
+    pub is_open: Cell<bool>,
     pub has_moved: Cell<bool>,
     pub listeners: Cell<Option<Loopback>>,
 }
@@ -238,7 +240,10 @@ impl<'a> Host for Localhost<'a> {
         let orders = self.listen_for_orders();
         let opened = open_at(self.place, port, orders);
         match &opened {
-            Ok(opened) => self.tell_if_successor(opened.served_file.is_moved.get()),
+            Ok(opened) => {
+                self.place.succession.is_open.set(true);
+                self.tell_if_successor(opened.served_file.is_moved.get());
+            }
             Err(_) => {
                 self.clear();
                 self.place.succession.close();

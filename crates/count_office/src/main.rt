@@ -32,7 +32,7 @@ ghost use Rattle.desk.specs.Pages.{IsErrorTold, Tells, outputs_of};
 ghost use Rattle.desk.specs.Seconds.{IsSecondPage};
 ghost use Rattle.connections.specs.Streams.{stream_of};
 ghost use Rattle.count_office.specs.Done.{IsDoneWith};
-ghost use Rattle.count_office.specs.Serving.{ServesOrder};
+ghost use Rattle.count_office.specs.Serving.{ServesWith};
 ghost use Rattle.sqlite_wal.specs.Reads.{AreClean};
 ghost use Rattle.sqlite.specs.Closing.{IsCopied};
 
@@ -65,6 +65,8 @@ mod second_file;
 mod second_order;
 mod second_words;
 mod seconds;
+mod serving_record;
+mod timed_record;
 // the two outputs
 mod screen;
 // what is printed in addition for a person at a terminal
@@ -87,9 +89,10 @@ use path_state::PathState;
 use remarks::perform_and_remark;
 use screen::Screen;
 use second_order::{RecordedTask, perform_with_record};
-use second_words::split_words;
+use second_words::{SplitWords, split_words};
 use seconds::second;
-use serving::{Serving, serve};
+use serving::Serving;
+use serving_record::serve_in_place;
 use sqlite::{Alter, Connection, ErrorCode, FileStore, Files};
 use sqlite_disk::Disk;
 use std::alloc::Global;
@@ -211,7 +214,7 @@ fn dispatch_order<H: Host, S: Alter, O: Sink, E: Sink>(
         Tells (outputs out.old err.old) (outputs out.new err.new) result.0 (λ _ page. HasCleanDisk (state S.Store result.1) → (db : Database) → RestsAt db (state S.Store conn)
         → (s : OfficeState) → IsLeftAt s db → IsSecondPage s path.now page)) }
     ensures serves { (serving : Serving) → order.now ≡ Order.Serve serving.port serving.connections serving.origin serving.codes serving.public
-        → (out.new ≡ out.old) × ServesOrder (IsErrorTold E.taken E.failed err.old err.new) (err.new ≡ err.old) result.0 serving (H.codes_at host.old) (H.file host.old)
+        → (out.new ≡ out.old) × ServesWith place.entry.second (IsErrorTold E.taken E.failed err.old err.new) (err.new ≡ err.old) result.0 serving (H.codes_at host.old) (H.file host.old)
         (stream_of H.Sockets.Stream.held H.Sockets.Stream.taken H.Sockets.Stream.failed) (state S.Store) (H.known host.old) (H.known host.new) conn result.1 }
 {
     let rt = place.rt;
@@ -231,7 +234,7 @@ fn dispatch_order<H: Host, S: Alter, O: Sink, E: Sink>(
                 codes: *codes,
                 public: *public,
             };
-            serve(rt.alloc(), host, serving, conn, err)
+            serve_in_place(place, host, serving, conn, err)
         }
         Order::Copy { path } => copy(rt, conn, path, out, err),
         Order::Journal => journal(rt, conn, out, err),
@@ -311,13 +314,11 @@ fn close<D: Disk + Drop>(conn: Connection<FileStore<D>>) -> Option<Files<D>>
     }
 }
 
-/// Performs an order on the database that the first word names, and returns the status. The path of the second record is empty if there
-/// is none.
-fn perform_at_path<O: Sink, E: Sink>(
-    rt: &HostRuntime,
-    words: &[&str],
-    second: &str,
-    order: &Order<'_>,
+/// Performs an order on the database that the first word names, and returns the status.
+fn perform_at_path<'a, O: Sink, E: Sink>(
+    rt: &'a HostRuntime,
+    given: &'a SplitWords<'a>,
+    order: &'a Order<'a>,
     out: &mut O,
     err: &mut E,
 ) -> u8
@@ -325,9 +326,11 @@ fn perform_at_path<O: Sink, E: Sink>(
     requires err { E.failed err.old < 2 ^ 64 - 1 }
 {
     let succession = Succession {
+        is_open: Cell::new(false),
         has_moved: Cell::new(false),
         listeners: Cell::new(None),
     };
+    let words = given.words.as_slice();
     let path = match words.first() {
         Some(path) => *path,
         None => "",
@@ -337,7 +340,7 @@ fn perform_at_path<O: Sink, E: Sink>(
         path,
         words,
         order,
-        second,
+        second: given.second.unwrap_or(""),
         is_successor: false,
         succession: &succession,
     };
@@ -346,37 +349,47 @@ fn perform_at_path<O: Sink, E: Sink>(
     status
 }
 
-/// Returns whether an order can have a second record: its requests, if any, change an office that exists.
+/// Returns whether an order can have a second record: it serves an office that exists, or its requests, if any, change one.
 fn takes_second(order: &Order<'_>) -> bool {
-    matches!(order, Order::Perform(Task::InOffice(_)))
+    matches!(
+        order,
+        Order::Perform(Task::InOffice(_)) | Order::Serve { .. }
+    )
 }
 
-/// Prints that an order can't have a second record, and returns the status.
+/// Returns whether an order must not have the second record that was given: the order can't have one, or the name of its file is empty.
+fn is_second_refused(second: Option<&str>, order: &Order<'_>) -> bool {
+    match second {
+        Some(path) => path.is_empty() || !takes_second(order),
+        None => false,
+    }
+}
+
+/// Prints that an order must not have the second record that was given, and returns the status.
 fn refuse_second<O: Sink, E: Sink>(alloc: Global, out: &mut O, err: &mut E) -> u8
     requires out { O.failed out.old < 2 ^ 64 - 1 }
     requires err { E.failed err.old < 2 ^ 64 - 1 }
 {
-    let text = "error: --second takes a FILE, and goes with an order that changes an office\n";
+    let text =
+        "error: --second FILE goes with an order that changes or serves an office, and FILE with a name\n";
     match String::from_str(alloc, text) {
         Ok(text) => tell_words(&WordsFault::Words { text, status: 2 }, out, err),
         Err(_) => tell_words(&WordsFault::Memory, out, err),
     }
 }
 
-/// Does what the given words, starting with DB, ask for, and returns the status. The path of the second record is empty if there is none.
-/// Making codes and printing slips need no database.
+/// Does what the given words, starting with DB, ask for, and returns the status. Making codes and printing slips need no database.
 fn follow_split<O: Sink, E: Sink>(
     rt: &HostRuntime,
-    words: &[&str],
-    second: &str,
+    given: &SplitWords<'_>,
     out: &mut O,
     err: &mut E,
 ) -> u8
     requires out { O.failed out.old < 2 ^ 64 - 1 }
     requires err { E.failed err.old < 2 ^ 64 - 1 }
 {
-    match order(rt.alloc(), &*words) {
-        Ok(order) if !second.is_empty() && !takes_second(&order) => {
+    match order(rt.alloc(), &given.words) {
+        Ok(order) if is_second_refused(given.second, &order) => {
             refuse_second(rt.alloc(), out, err)
         }
         Ok(
@@ -394,7 +407,7 @@ fn follow_split<O: Sink, E: Sink>(
             make_codes_file(rt, asked, out, err)
         }
         Ok(Order::Slips { path, address }) => print_slips(rt, path, address, out, err),
-        Ok(order) => perform_at_path(rt, words, second, &order, out, err),
+        Ok(order) => perform_at_path(rt, &*given, &order, out, err),
         Err(fault) => tell_words(&fault, out, err),
     }
 }
@@ -405,14 +418,9 @@ fn follow_words<O: Sink, E: Sink>(rt: &HostRuntime, words: &[&str], out: &mut O,
     requires out { O.failed out.old < 2 ^ 64 - 1 }
     requires err { E.failed err.old < 2 ^ 64 - 1 }
 {
-    let Ok(given) = split_words(rt.alloc(), words) else {
-        return tell_words(&WordsFault::Memory, out, err);
-    };
-    match given.second {
-        // no file is named, as with a shell's variable that isn't set
-        Some("") => refuse_second(rt.alloc(), out, err),
-        Some(second) => follow_split(rt, &given.words, second, out, err),
-        None => follow_split(rt, &given.words, "", out, err),
+    match split_words(rt.alloc(), words) {
+        Ok(given) => follow_split(rt, &given, out, err),
+        Err(_) => tell_words(&WordsFault::Memory, out, err),
     }
 }
 

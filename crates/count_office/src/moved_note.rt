@@ -68,7 +68,7 @@ pub fn moved_to(rt: &HostRuntime, database: &str) -> io::Result<Option<String>> 
 }
 
 /// Flushes the names in the folder of a file, whose path is absolute, to the disk.
-fn flush_folder(rt: &HostRuntime, path: &str) -> io::Result<()> {
+pub fn flush_folder(rt: &HostRuntime, path: &str) -> io::Result<()> {
     match Path::new(path).parent() {
         Some(folder) => File::open(rt, folder)?.sync_all(),
         None => Err(ErrorKind::InvalidInput.into()),
@@ -85,7 +85,7 @@ pub fn write_note(rt: &HostRuntime, database: &str, new: &str) -> io::Result<()>
     flush_folder(rt, new.as_str())?;
     // A stop may have left one.
     let _ = fs::remove_file(rt, unfinished.as_str());
-    write_new(rt, unfinished.as_str(), text.as_str())?;
+    write_new(rt, unfinished.as_str(), text.as_bytes())?;
     let written = fs::rename(rt, unfinished.as_str(), note.as_str()).and_then(|_| flush_folder(
         rt,
         note.as_str(),

@@ -57,8 +57,14 @@ pub fn tell_second_failed(rt: &HostRuntime, path: &str, fault: RecordFault) {
     let mut stderr = rt.stderr();
     let _ = writeln!(
         stderr,
-        "{path}: {fault}; begin a new file with the order journal"
+        "{path}: {fault}; nothing more is accepted until you start again with a new file"
     );
+}
+
+/// Prints in which file the requests that a new office accepts are recorded, after the one that was served has moved.
+pub fn tell_recording(rt: &HostRuntime, path: &str) {
+    let mut stderr = rt.stderr();
+    let _ = writeln!(stderr, "recording in {path} now");
 }
 
 /// Prints what an order is waiting for, if the error output is a terminal.

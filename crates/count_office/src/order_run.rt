@@ -16,6 +16,7 @@ use crate::screen::Screen;
 use crate::{LockedDatabase, close, dispatch_order, is_busy, order_socket, wants_progress};
 use desk::{Failure, Order, ProgressSink, Task, tell_failure};
 use sqlite::{Connection, Wary};
+use std::alloc::{AllocError, Global};
 use std::fs;
 use std::io::{self, ErrorKind, IsTerminal};
 use std::time::{Clock, Duration};
@@ -324,15 +325,49 @@ pub fn perform_quietly<O: Sink, E: Sink>(
     None
 }
 
-/// Returns the path of the office that took the place of the one at a path, or the failure if no note says so.
-fn successor_of(rt: &HostRuntime, path: &str) -> Result<String, Failure> {
-    let found = fs::canonicalize(rt, path).and_then(|database| moved_to(rt, database.as_str()));
-    match found {
-        Ok(Some(new)) => Ok(new),
-        Err(error) if error.kind() == ErrorKind::OutOfMemory => {
-            Err(Failure::Office(Fault::Memory))
+/// A new office that took the place of one that was served: the path of its database, and that of its second record, which is empty if
+/// there is none.
+#[derive(Drop)]
+struct Successor {
+    path: String,
+    second: String,
+}
+
+/// Returns the path of another second record; an empty one if there is none.
+fn numbered(alloc: Global, path: &str, number: u64) -> Result<String, AllocError> {
+    if path.is_empty() {
+        return Ok(String::new(alloc));
+    }
+    format!(in alloc; "{path}-{number}")
+}
+
+impl Successor {
+    /// Returns the office that took the place of the one at a path, or the failure if no note says so. The second record of the order's
+    /// first office gives the name of its own, together with its number.
+    fn find(request: OrderRun<'_>, path: &str, number: u64) -> Result<Successor, Failure> {
+        let rt = request.rt;
+        let found = fs::canonicalize(rt, path).and_then(|database| moved_to(rt, database.as_str()));
+        let path = match found {
+            Ok(Some(path)) => path,
+            Err(error) if error.kind() == ErrorKind::OutOfMemory => {
+                return Err(Failure::Office(Fault::Memory));
+            }
+            _ => return Err(Failure::FileGone),
+        };
+        match numbered(rt.alloc(), request.second, number) {
+            Ok(second) => Ok(Successor { path, second }),
+            Err(AllocError) => Err(Failure::Office(Fault::Memory)),
         }
-        _ => Err(Failure::FileGone),
+    }
+
+    /// Returns the order for this office.
+    fn run<'a>(&'a self, request: OrderRun<'a>) -> OrderRun<'a> {
+        OrderRun {
+            path: self.path.as_str(),
+            second: self.second.as_str(),
+            is_successor: true,
+            ..request
+        }
     }
 }
 
@@ -351,33 +386,29 @@ fn perform_anew(request: OrderRun<'_>) -> u8 {
 }
 
 /// Performs an order on the database at a path, and returns its status. If the order serves an office and a new one takes its place,
-/// serves that one, and so on; the status is that of the last one.
+/// serves that one, and so on; the status is that of the last one. If there is a second record FILE, the next offices have theirs in
+/// FILE-2, FILE-3 and so on.
 pub fn perform_and_follow<O: Sink, E: Sink>(request: OrderRun<'_>, out: &mut O, err: &mut E) -> u8
     requires out { O.failed out.old < 2 ^ 64 - 1 }
     requires err { E.failed err.old < 2 ^ 64 - 1 }
 {
     let OrderRun { rt, succession, .. } = request;
     let mut status = perform_with_retries(request, out, err);
-    let mut path = None;
-    for _ in 0..u64::MAX {
+    let mut successor: Option<Successor> = None;
+    for number in 2..u64::MAX {
         if !succession.has_moved.replace(false) {
             return status;
         }
-        let last = match &path {
-            Some(path) => String::as_str(path),
+        let last = match &successor {
+            Some(last) => last.path.as_str(),
             None => request.path,
         };
-        let new = match successor_of(rt, last) {
+        let new = match Successor::find(request, last, number) {
             Ok(new) => new,
             Err(failure) => return tell_unfollowed(rt, failure),
         };
-        let next = OrderRun {
-            path: new.as_str(),
-            is_successor: true,
-            ..request
-        };
-        status = perform_anew(next);
-        path = Some(new);
+        status = perform_anew(new.run(request));
+        successor = Some(new);
     }
     status
 }

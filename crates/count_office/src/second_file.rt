@@ -5,6 +5,8 @@
 
 ghost use Rattle.std.specs.Prelude.{None, ⊤};
 
+use crate::codes_file::write_new;
+use crate::moved_note::flush_folder;
 use desk::DurableSink;
 use std::fs::{self, File, OpenOptions};
 use std::io::{self, ErrorKind, Read, Seek, SeekFrom, Write};
@@ -25,6 +27,10 @@ pub enum SecondFault {
     Writable,
     /// The last line of the file was cut by a stop.
     Cut,
+    /// A new file was to be made, but something has its name already.
+    Taken,
+    /// A new file was to be made, but it can't be written.
+    Unwritten,
 }
 
 impl SecondFault {
@@ -37,6 +43,8 @@ impl SecondFault {
             SecondFault::Cut => {
                 "its last line was cut by a stop; begin a new file with the order journal"
             }
+            SecondFault::Taken => "something is there already; name a new file",
+            SecondFault::Unwritten => "it can't be written",
         }
     }
 }
@@ -47,6 +55,19 @@ fn fault_of(error: &io::Error) -> SecondFault {
         ErrorKind::NotFound => SecondFault::Missing,
         _ => SecondFault::Unusable,
     }
+}
+
+/// Returns why a file wasn't made.
+fn fault_in_making(error: &io::Error) -> SecondFault {
+    match error.kind() {
+        ErrorKind::AlreadyExists => SecondFault::Taken,
+        _ => SecondFault::Unwritten,
+    }
+}
+
+/// Flushes the name of a file to the disk.
+fn flush_name(rt: &HostRuntime, path: &str) -> io::Result<()> {
+    flush_folder(rt, fs::canonicalize(rt, path)?.as_str())
 }
 
 /// Returns whether a file that isn't empty ends with something other than a newline.
@@ -67,6 +88,20 @@ pub struct SecondFile {
 }
 
 impl SecondFile {
+    /// Creates a file that only its owner may read and write, with a text that ends with a newline, flushes it, and opens it. If that
+    /// fails, no file is left.
+    pub fn create(rt: &HostRuntime, path: &str, text: &[u8]) -> Result<SecondFile, SecondFault> {
+        write_new(rt, path, text).map_err(|error| fault_in_making(&error))?;
+        let opened = match flush_name(rt, path) {
+            Ok(()) => SecondFile::open(rt, path),
+            Err(_) => Err(SecondFault::Unwritten),
+        };
+        if opened.is_err() {
+            let _ = fs::remove_file(rt, path);
+        }
+        opened
+    }
+
     /// Opens an existing file, to which only its owner may write, and whose last line is whole. Doesn't open pipes and devices, because
     /// opening them may block.
     pub fn open(rt: &HostRuntime, path: &str) -> Result<SecondFile, SecondFault> {

@@ -6,14 +6,14 @@ ghost use Rattle.sqlite.specs.Held.{state};
 ghost use Rattle.tables.specs.Reading.{OnlyReads};
 ghost use Rattle.count_office.specs.Done.{IsDoneRecorded};
 
-use crate::notices::{tell_second_failed, tell_second_unusable};
+use crate::notices::tell_second_unusable;
 use crate::order_files::LocalFolder;
 use crate::second_file::{SecondFault, SecondFile};
 use crate::seconds::second;
+use crate::timed_record::TimedRecord;
 use desk::perform::perform_recorded;
-use desk::{Failure, ScriptRecord, Task, tell_failure};
+use desk::{Failure, Task, tell_failure};
 use sqlite::{Alter, Connection};
-use std::time::{SystemTime, UNIX_EPOCH};
 use streams::{Broken, Counted, Sink, put_all};
 
 /// A task, the files that it names, and the path of the second record.
@@ -24,23 +24,8 @@ pub struct RecordedTask<'a> {
     pub second: &'a str,
 }
 
-/// Returns the comment for an order that is given now: the time of day in UTC; empty if the clock fails.
-fn comment_now(rt: &HostRuntime) -> String {
-    let since = match SystemTime::now(rt) {
-        Ok(now) => now.duration_since(UNIX_EPOCH),
-        Err(_) => return String::new(rt.alloc()),
-    };
-    let Ok(since) = since else {
-        return String::new(rt.alloc());
-    };
-    let seconds = since.as_secs() % 86_400;
-    let (hour, minute, second) = (seconds / 3_600, seconds / 60 % 60, seconds % 60);
-    let text = format!(in rt.alloc(); "# {hour:02}:{minute:02}:{second:02} UTC, an order");
-    text.unwrap_or(String::new(rt.alloc()))
-}
-
 /// Prints fault 112, followed by a line that says why the file of a second record can't be used. Returns the status.
-fn refuse_second<E: Sink>(rt: &HostRuntime, path: &str, why: SecondFault, err: &mut E) -> u8
+pub fn refuse_second<E: Sink>(rt: &HostRuntime, path: &str, why: SecondFault, err: &mut E) -> u8
     requires { E.failed err.old < 2 ^ 64 - 1 }
 {
     let status = tell_failure(Failure::SecondRecord, err);
@@ -93,7 +78,7 @@ fn open_record<S: Alter, E: Sink>(
 /// Performs a task on an open connection to an office with a second record, prints the outcome, and returns the status.
 ///
 /// If the record's file can't be used, or doesn't hold the same as the office, nothing is done, and this is printed. If recording an
-/// accepted request fails, fault 112 is printed in place of its reply, and nothing more is done.
+/// accepted request fails, why is printed, and fault 112 in place of the reply; and nothing more is done.
 pub fn perform_with_record<S: Alter, O: Sink, E: Sink>(
     asked: RecordedTask<'_>,
     conn: Connection<S>,
@@ -110,9 +95,8 @@ pub fn perform_with_record<S: Alter, O: Sink, E: Sink>(
         Ok(file) => file,
         Err(status) => return (status, conn),
     };
-    let mut record = ScriptRecord::new(rt.alloc(), file);
-    record.set_comment(comment_now(rt));
-    let (status, conn) = perform_recorded(
+    let mut record = TimedRecord::new(rt, asked.second, file);
+    perform_recorded(
         rt.alloc(),
         asked.task,
         conn,
@@ -120,9 +104,5 @@ pub fn perform_with_record<S: Alter, O: Sink, E: Sink>(
         &mut record,
         out,
         err,
-    );
-    if let Some(fault) = record.fault() {
-        tell_second_failed(rt, asked.second, fault);
-    }
-    (status, conn)
+    )
 }

@@ -5,6 +5,7 @@ ghost use Rattle.sqlite.specs.Held.{state};
 ghost use Rattle.desk.specs.Pages.{IsErrorTold};
 ghost use Rattle.connections.specs.Streams.{stream_of};
 ghost use Rattle.wire.specs.Origins.{origin_setting};
+ghost use Rattle.server.specs.RecordChanges.{served_view};
 ghost use Rattle.count_office.specs.Serving.{MayServe, MendedIsKept, ServesAtNetwork, ServesOrder, TellsOutcome, gate_at, outcome_by, public_at, public_in};
 ghost use Rattle.count_office.specs.Serving.{public_with, server_settings_of, settings_with};
 
@@ -13,9 +14,9 @@ use crate::gate::{GateFiles, gate_of, read_gate_files};
 use crate::host::{Host, Opened};
 use crate::public::{PublicTexts, make_public_texts, public_of};
 use connections::Network;
-use desk::{Failure, tell_failure};
+use desk::{Failure, Recorder, tell_failure};
 use office::Office;
-use server::{FileNumbers, ServeError, ServedFile, ServerSettings, serve_connections};
+use server::{FileNumbers, ServeError, ServedFile, ServerSettings, serve_recorded};
 use sqlite::{Alter, Connection};
 use std::alloc::Global;
 use store::Fault;
@@ -31,6 +32,13 @@ pub struct Serving<'a> {
     pub origin: Option<Origin<'a>>,
     pub codes: Option<&'a str>,
     pub public: Option<&'a str>,
+}
+
+/// What is given for serving an office: the words of `serve`, and the codes and the pages of the gate, if there is one.
+#[derive(Clone, Copy)]
+struct GivenSettings<'a> {
+    serving: Serving<'a>,
+    gate_files: &'a Option<GateFiles>,
 }
 
 /// The settings for serving an office: the words of `serve`; the codes and the pages of the gate, if there is one; what is
@@ -64,16 +72,17 @@ fn most_of(connections: Option<u32>) -> Option<u64>
     }
 }
 
-/// Serves an open office on a network, with the given settings.
-fn serve_through<D: Network, A: ServedFile, S: Alter>(
+/// Serves an open office on a network, with the given settings, and returns the recorder.
+fn serve_through<D: Network, A: ServedFile, S: Alter, R: Recorder>(
     alloc: Global,
     network: &mut D,
     settings: ServeSettings<'_>,
     served_file: &A,
     office: &mut Office<S>,
-) -> Result<(), ServeError>
-    ensures { ServesAtNetwork (server_settings_of settings.entry (A.whole served_file.now)) (stream_of D.Stream.held D.Stream.taken D.Stream.failed) (state S.Store)
-        (D.known network.old) (D.known network.new) settings.entry.serving.connections office.old office.new result }
+    recorder: R,
+) -> (Result<(), ServeError>, R)
+    ensures { ServesAtNetwork (server_settings_of settings.entry (A.whole served_file.now) (R.records recorder)) (stream_of D.Stream.held D.Stream.taken D.Stream.failed)
+        (served_view (state S.Store) R.found R.failed) (D.known network.old) (D.known network.new) settings.entry.serving.connections office.old office.new recorder result.0 result.1 }
 {
     let server_settings = ServerSettings {
         http: HttpSettings {
@@ -85,7 +94,7 @@ fn serve_through<D: Network, A: ServedFile, S: Alter>(
         served_file,
     };
     let most = most_of(settings.serving.connections);
-    serve_connections(alloc, network, server_settings, most, office)
+    serve_recorded(alloc, network, server_settings, most, office, recorder)
 }
 
 /// Builds the texts that are shown in public, if there is a title. The only failure is a failed allocation.
@@ -102,32 +111,50 @@ fn public_texts<'a>(
 }
 
 /// Opens the network of a host, serves an open office there, and closes the network. Returns an error if the network can't be
-/// opened, if an allocation fails before that, or if serving ended early.
-fn serve_at<H: Host, S: Alter>(
+/// opened, if an allocation fails before that, or if serving ended early; and the recorder.
+fn serve_at<H: Host, S: Alter, R: Recorder>(
     alloc: Global,
     host: &mut H,
-    serving: Serving<'_>,
-    gate_files: &Option<GateFiles>,
+    given: GivenSettings<'_>,
     office: &mut Office<S>,
-) -> Result<(), Failure>
-    ensures { MayServe (λ given. (given ≡ settings_with (origin_setting serving.entry.origin) (option_map gate_at gate_files.now) (public_in serving.entry) given.file given.whole)
-        × IfSome (H.file host.old) (λ numbers. given.file ≡ numbers))
-        (stream_of H.Sockets.Stream.held H.Sockets.Stream.taken H.Sockets.Stream.failed) (state S.Store)
-        serving.entry.port (H.known host.old) (H.known host.new) serving.entry.connections office.old office.new result }
+    recorder: R,
+) -> (Result<(), Failure>, R)
+    ensures { MayServe (λ its. (its ≡ settings_with (origin_setting given.entry.serving.origin) (option_map gate_at given.entry.gate_files.now) (public_in given.entry.serving) its.file its.whole
+        (R.records recorder)) × IfSome (H.file host.old) (λ numbers. its.file ≡ numbers))
+        (stream_of H.Sockets.Stream.held H.Sockets.Stream.taken H.Sockets.Stream.failed) (served_view (state S.Store) R.found R.failed)
+        given.entry.serving.port (H.known host.old) (H.known host.new) given.entry.serving.connections office.old office.new recorder result.0 result.1 }
 {
-    let texts = public_texts(alloc, serving.public)?;
+    let GivenSettings {
+        serving,
+        gate_files,
+    } = given;
+    let texts = match public_texts(alloc, serving.public) {
+        Ok(texts) => texts,
+        Err(failure) => return (Err(failure), recorder),
+    };
+    let opened = match host.open(serving.port) {
+        Ok(opened) => opened,
+        Err(failure) => return (Err(failure), recorder),
+    };
     let Opened {
         mut network,
         served_file,
         file,
-    } = host.open(serving.port)?;
+    } = opened;
     let settings = ServeSettings {
         serving,
         gate_files,
         public: public_of(&texts),
         file,
     };
-    let ended = serve_through(alloc, &mut network, settings, &served_file, office);
+    let (ended, recorder) = serve_through(
+        alloc,
+        &mut network,
+        settings,
+        &served_file,
+        office,
+        recorder,
+    );
     host.close(
         serving.port,
         Opened {
@@ -136,7 +163,7 @@ fn serve_at<H: Host, S: Alter>(
             file,
         },
     );
-    outcome_of(ended)
+    (outcome_of(ended), recorder)
 }
 
 /// Prints the failure, if there is one, and returns the status.
@@ -150,39 +177,47 @@ fn tell_outcome<E: Sink>(outcome: Result<(), Failure>, err: &mut E) -> u8
     }
 }
 
-/// Opens the office on a connection, serves it on a host, and returns the status and the connection.
+/// Opens the office on a connection, serves it on a host, and returns the status, the connection, and the recorder.
 ///
 /// If the settings name a file of clerks' codes, that file is read first, and every client is served at a gate with exactly
 /// those codes. Otherwise there is no gate. If the settings have a title, the count is shown in public under that title. If the
 /// codes can't be read, or the office or the network can't be opened, no client is served and nothing changes. Any failure is
 /// printed.
-pub fn serve<H: Host, S: Alter, E: Sink>(
+///
+/// Each request that the office accepts is recorded before it is acknowledged, unless there is no second record.
+pub fn serve<H: Host, S: Alter, R: Recorder, E: Sink>(
     alloc: Global,
     host: &mut H,
     serving: Serving<'_>,
     conn: Connection<S>,
+    recorder: R,
     err: &mut E,
-) -> (u8, Connection<S>)
+) -> (u8, Connection<S>, R)
     requires { E.failed err.old < 2 ^ 64 - 1 }
-    ensures { ServesOrder (IsErrorTold E.taken E.failed err.old err.new) (err.new ≡ err.old) result.0 serving.entry (H.codes_at host.old) (H.file host.old)
-        (stream_of H.Sockets.Stream.held H.Sockets.Stream.taken H.Sockets.Stream.failed) (state S.Store) (H.known host.old) (H.known host.new) conn result.1 }
+    ensures { ServesOrder (IsErrorTold E.taken E.failed err.old err.new) (err.new ≡ err.old) result.0 serving.entry (H.codes_at host.old) (H.file host.old) (R.records recorder)
+        (stream_of H.Sockets.Stream.held H.Sockets.Stream.taken H.Sockets.Stream.failed) (served_view (state S.Store) R.found R.failed) (H.known host.old) (H.known host.new) conn result.1
+        recorder result.2 }
 {
     let gate_files = match read_gate_files(alloc, &*host, serving.codes) {
         Ok(gate_files) => gate_files,
-        Err(why) => return (tell_untaken(why, err), conn),
+        Err(why) => return (tell_untaken(why, err), conn, recorder),
     };
     let mut office = match Office::open_from(alloc, conn) {
         Ok(office) => office,
-        Err((fault, conn)) => return (tell_failure(Failure::Office(fault), err), conn),
+        Err((fault, conn)) => return (tell_failure(Failure::Office(fault), err), conn, recorder),
     };
-    let outcome = serve_at(alloc, host, serving, &gate_files, &mut office);
+    let given = GivenSettings {
+        serving,
+        gate_files: &gate_files,
+    };
+    let (outcome, recorder) = serve_at(alloc, host, given, &mut office, recorder);
     let status = tell_outcome(outcome, err);
-    (status, office.into_connection())
+    (status, office.into_connection(), recorder)
 }
 
 /// The law of an office that takes the place of another. What the old one keeps is its list of requests up to the switch, as [`serve`]
 /// says of the old one. What the new one keeps is the list that `mend` made of the old one's, followed by what the new one accepts, if it
 /// opens at the state that `mend` made. No contract says that of the file in which it was made.
-pub fn mended_list_is_kept<D: Network, S: Alter>()
-    ensures { MendedIsKept (stream_of D.Stream.held D.Stream.taken D.Stream.failed) (state S.Store) }
+pub fn mended_list_is_kept<D: Network, S: Alter, R: Recorder>()
+    ensures { MendedIsKept (stream_of D.Stream.held D.Stream.taken D.Stream.failed) (served_view (state S.Store) R.found R.failed) }
 {}

@@ -1,5 +1,5 @@
 """What stops an order or `serve`: a kill, a refusal of memory, a failing disk. Nothing that was answered is lost."""
-import collections, random, re, time
+import collections, random, re, shutil, time
 from concurrent.futures import ThreadPoolExecutor
 
 from office_tools.election import COPY, COPY_LOG, FILE, election, ward_orders
@@ -113,13 +113,16 @@ def try_failing_disk(room, step=1, order=""):
 
 CLERKS, PAPERS, WARDS = range(1, 21), 2, range(11, 21)
 KEYING = '{"id":"k","round":1,"papers":["1,2,","D"]}'
+RECORD, SAME = "town.script", "town.script and this office hold the same"
+MORE_HERE, MORE_THERE = "this office has one request more than town.script", "town.script has one request more than this office"
 WHOLE = re.compile(rb"HTTP/1\.1 200 OK\r\n.*?Content-Length: (\d+)\r\n.*?\r\n\r\n(.*)", re.DOTALL)
 
 class Crowd:
     """Twenty clerks who key at once, and orders that are handed over meanwhile."""
 
-    def __init__(self, folder):
+    def __init__(self, folder, *words):
         self.office, self.here = Office(folder / "office").begin(ward_orders(*((n, PAPERS, n, 999) for n in CLERKS))), folder / "here"
+        self.words = words
         here = self.office.copied(self.here)
         self.seconds, self.answered = self.served(here)
         self.before, self.after = set(rows_of(self.office)), set(rows_of(here))
@@ -134,7 +137,7 @@ class Crowd:
 
     def served(self, here, wait=None):
         """Returns (seconds of clerks and of orders, whose answers) of a `serve` that is killed after some seconds, or at the end."""
-        with here.serve().wait() as serving, ThreadPoolExecutor(len(CLERKS) + 2) as pool:
+        with here.serve(*self.words).wait() as serving, ThreadPoolExecutor(len(CLERKS) + 2) as pool:
             def key_all():
                 asked = pool.map(lambda n: serving.ask(request(f"/clerks/{n}/batches/{n}/keying", body=KEYING)), CLERKS)
                 found = {f"clerk {n}": (text, WHOLE.fullmatch(text)) for n, text in zip(CLERKS, asked)}
@@ -159,15 +162,34 @@ class Crowd:
         wrong_if(is_wrong, f"twenty clerks at once left other rows, or some of somebody's: {sorted(found)}")
         return kept
 
-    def killed(self, chance):
-        """Returns whose keyings and orders were answered, and whose are kept."""
+    def stopped(self, chance):
+        """Kills `serve` at a random moment. Returns the office, and whose keyings and orders were answered, and whose are kept."""
         here = self.office.copied(self.here)
         _, answered = self.served(here, chance.uniform(0, 1.2 * chance.choice(self.seconds)))
         kept = self.kept(here)
         wrong_if(lost := set(answered) - kept, f"what {lost} sent was answered, and is lost")
+        return here, answered, kept
+
+    def killed(self, chance):
+        """Returns whose keyings and orders were answered, and whose are kept. Everyone sends theirs again."""
+        here, answered, kept = self.stopped(chance)
         _, again = self.served(here)
         expect("what twenty clerks who key again, and the officer, get and leave", (again, set(rows_of(here))), (self.answered, self.after))
         return answered, kept
+
+    def recorded(self, chance):
+        """Returns whose keyings and orders were answered, whose the record keeps, and whose the office keeps."""
+        here, answered, kept = self.stopped(chance)
+        again = Office(self.here.with_name("again")).begin()
+        shutil.copyfile(here.folder / RECORD, again.folder / RECORD)
+        again.do("replay", RECORD, "--cut")
+        found = self.kept(again)
+        shutil.rmtree(again.folder)
+        wrong_if(lost := set(answered) - found, f"what {lost} sent was answered, and is lost in the second record")
+        wrong_if(max(map(len, (found - set(answered), kept - set(answered), found ^ kept))) > 1, f"{answered} answered, {found} and {kept} kept")
+        says = SAME if found == kept else MORE_HERE if found < kept else MORE_THERE
+        expect("what the order `second` says", says in (printed := here.run("second", RECORD)).out + printed.err, True)
+        return answered, found, kept
 
 def rows_of(office):
     return [(table, row) for table, rows in office.rows().items() for row in rows]
@@ -187,3 +209,16 @@ def try_killed_serving(room, runs=200, seed=7):
     for what, kind, most in (("each clerk keys a batch", "clerk", len(CLERKS)), ("the office adds ten wards", "ward", len(WARDS))):
         answered, kept = ([sum(own.startswith(kind) for own in those) for those in column] for column in zip(*found))
         table.row(what, runs, sum(answered), sum(kept), sum(0 < count < most for count in kept))
+
+def try_second_record(room, runs=100, seed=7):
+    """Kills `serve --second FILE` at random moments while it serves clients, and sees that nothing is lost in FILE, or in the office.
+
+    Twenty clerks key, and the office gives ten orders, as in `tools/try killed-serving`. After the kill FILE is replayed in a new office
+    (`replay FILE --cut`), as if DB were lost, and DB is opened, as if FILE were. Each has all that was answered, and at most one more; and
+    so does each of them have at most one more than the other, as the order `second` says.
+    """
+    chance, crowd = random.Random(seed), Crowd(room, "--second", RECORD)
+    found = [crowd.recorded(chance) for _ in range(runs)]
+    table = Table(f"Twenty clerks at once, and ten orders (seed {seed})", "runs", "answered", "in the record", "in the office", "runs in which these differ")
+    table.row("each clerk keys a batch, and the office adds ten wards", runs, *(sum(map(len, column)) for column in zip(*found)),
+              sum(record != kept for _, record, kept in found))

@@ -14,7 +14,7 @@ use Rattle.desk.specs.Seconds.{IsSecondPage}
 use Rattle.desk.specs.declared.orders.MendOrder.{MendOrder}
 use Rattle.desk.specs.declared.orders.Order.{Order}
 use Rattle.desk.specs.declared.orders.Order.TheVariants as order
-use Rattle.count_office.specs.Serving.{ServesOrder}
+use Rattle.count_office.specs.Serving.{ServesWith}
 use Rattle.count_office.specs.declared.serving.Serving.{Serving}
 use Rattle.count_office.proofs.dispatch_order.Goals as goal
 
@@ -32,12 +32,13 @@ pub returns-in-Serve-clause-serves : goal.returns-in-Serve-clause-serves
 returns-in-Serve-clause-serves g c = λ serving is.
     let its : Serving = record { port = c.in-Serve.port; connections = c.in-Serve.connections; origin = c.in-Serve.origin; codes = c.in-Serve.codes; public = c.in-Serve.public } in (
       refl,
-      subst (λ (s : Serving). ServesOrder (IsErrorTold g.E.Sink.taken g.E.Sink.failed c.args.err.now c.serve.new.err) (c.serve.new.err ≡ c.args.err.now) c.serve.result.0 s
+      subst (λ (s : Serving). ServesWith c.args.place.second (IsErrorTold g.E.Sink.taken g.E.Sink.failed c.args.err.now c.serve_in_place.new.err)
+          (c.serve_in_place.new.err ≡ c.args.err.now) c.serve_in_place.result.0 s
           (g.H.Host.codes_at c.args.host.now) (g.H.Host.file c.args.host.now)
           (stream_of g.H.Sockets.Stream.Stream.held g.H.Sockets.Stream.Stream.taken g.H.Sockets.Stream.Stream.failed) (state g.S.Store)
-          (g.H.Host.known c.args.host.now) (g.H.Host.known c.serve.new.host) c.args.conn c.serve.result.1)
+          (g.H.Host.known c.args.host.now) (g.H.Host.known c.serve_in_place.new.host) c.args.conn c.serve_in_place.result.1)
           (same_serving its serving (sym c.in-Serve.is ∙ is))
-          c.serve.ensures,
+          c.serve_in_place.ensures,
     )
 
 pub returns-in-Mend-clause-mends : goal.returns-in-Mend-clause-mends
