@@ -105,7 +105,7 @@ LARGE = {
     "desk": "begin_steps count_stages follow_recorded in_office mend_open perform_recorded replay run run_part run_script run_steps "
             "second_in second_open send_all tell_numbered",
     "store_tests": "are_refused give",
-    "count_office": "fill fill_mended fill_open finish finish_mended mend_served dispatch_order perform_at_path perform_locked",
+    "count_office": "fill fill_mended fill_open finish finish_mended mend_served dispatch_order perform_locked",
     "wire": "proofs/answering/answer_reading/Answers.antt:35",
 }
 PARAMETER, FIXED = re.compile(r"[(,]\s*(?:mut )?(?!alloc:)(?:\([^()]*\)|[a-z_]\w*):(?!:)"), re.compile(r'.*"[^"]{60,}')
