@@ -10,7 +10,7 @@ use Rattle.mending.specs.Accounts.{IsMended}
 use Rattle.mending.specs.Changes.{CanBeMade}
 use Rattle.mending.specs.Mending.{mended}
 use Rattle.desk.specs.Mends.{IsMade, IsMendPage, IsMendTold, IsMendedOpen, IsUnmade, mended_text, ward_lines}
-use Rattle.desk.specs.Pages.{Cut, IsErrorTold, IsShown, Outputs, Page, Tells, below, cut_below, failed, outputs_of, printed}
+use Rattle.desk.specs.Pages.{IsErrorTold, IsShown, Outputs, Page, Tells, below, cut_below, failed, outputs_of, printed}
 use Rattle.desk.specs.declared.copying.CopyState.{CopyState}
 use Rattle.desk.specs.declared.lines.Failure.{Failure}
 use Rattle.desk.specs.declared.lines.Failure.TheVariants.{CopyFailed}

@@ -1,5 +1,5 @@
 -- Serving an office on a host: its settings, and the outcome of the order to serve.
-use Rattle.std.specs.Prelude.{◌≡◌, ◌≢◌, ◌⊎◌, ◌++◌, ℕ, Bool, true, false, List, IfSome, None, Option, Some, Result, Ok, Err, length, option_map, string_bytes}
+use Rattle.std.specs.Prelude.{◌≡◌, ◌≢◌, ◌⊎◌, ℕ, Bool, true, false, List, IfSome, None, Option, Some, Result, Ok, Err, option_map, string_bytes}
 use Rattle.sqlite.specs.Effect.{Database}
 use Rattle.sqlite.specs.Held.{Held}
 use Rattle.sqlite.specs.State.{HasCleanDisk, State}
@@ -34,7 +34,7 @@ use Rattle.desk.specs.declared.lines.Failure.TheVariants.{Office, Output}
 use Rattle.server.specs.Servers.{IsEndedBy, ServesRecorded, view_without_record}
 use Rattle.server.specs.Settings.{ServerSettingsEntry}
 use Rattle.server.specs.Exchanges.{KeepsExchanges, KeepsInRecord}
-use Rattle.server.specs.RecordChanges.{ServedView, served_view}
+use Rattle.server.specs.RecordChanges.{ServedView, change_in, served_view}
 use Rattle.server.specs.declared.serve_error.ServeError.{ServeError}
 use Rattle.server.specs.declared.serve_error.ServeError.TheVariants as ended
 use Rattle.server.specs.declared.server_settings.FileNumbers.{FileNumbers}
@@ -203,7 +203,7 @@ pub record IsServed {L S R : Type 0} (Tells : List ℕ → ℕ → ℕ → Type 
   pub elsewhere : IsElsewhereSame port before later
   pub keeps : HasCleanDisk (view.state_of new) → (db : Database) → RestsAt db (view.state_of old) → (earlier : List Request) → IsLeftAt (after empty_office earlier) db
       → (kept : KeepsExchanges view.state_of settings earlier at_network.serves.exchanges closed (view.state_of new))
-      × KeepsInRecord (view.found recorder) (view.found recorder_later) earlier (kept.answered ++ kept.last) (length kept.answered)
+      × KeepsInRecord (change_in view recorder recorder_later) closed earlier kept.answered kept.last
 
 -- The outcome of the order to serve, with a recorder: the codes couldn't be read, or the office or its network couldn't be opened; or the office was served.
 abbrev pub ServesOrder : {L S R : Type 0} → (List ℕ → ℕ → ℕ → Type 0) → Type 0 → ℕ → Serving → CodeFiles → Option FileNumbers → Bool → Stream L → ServedView S R
