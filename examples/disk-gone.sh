@@ -1,6 +1,7 @@
 #!/usr/bin/env bash
 # Plays an evening whose disk is lost. Its journal is on a stick, as a second record, whose last line was cut: a new office is made from
-# it, and compared with it. Then records that lack a request, that have one more, of another office, and that aren't records.
+# it, and compared with it. Then records that lack a request, that have one more, of another office, and that aren't records; and one that
+# orders keep up to date themselves.
 # shellcheck source=examples/play.bash
 source "$(dirname "$(readlink -f "${BASH_SOURCE[0]}")")/play.bash"
 
@@ -57,5 +58,30 @@ printf '%s\n' ward,candidate,name 7,1,Ann 7,2,Bob 7,3,Cy >"$folder/names.csv"
     printf '%s\n' 'close 7 --id n1' wards >"$folder/stick/wards.script"
     play new.db second stick/wards.script
     play new.db second stick/missing.script
+
+    # a record that orders keep up to date themselves: what is accepted is appended, and nothing else
+    play kept.db init
+    play kept.db ward 7 1 Harbour --id w1
+    (umask 077 && cd "$folder" && "$office" kept.db journal >stick/kept.script)
+    play kept.db --second stick/kept.script import-candidates names.csv --id c
+    play kept.db candidate 7 4 --id c4 --second stick/kept.script -- "-Bob O'Neill"
+    play kept.db candidate 7 4 --id c4 --second stick/kept.script -- "-Bob O'Neill"
+    play kept.db candidate 7 1 Eve --id c5 --second stick/kept.script
+    sed -E 's/^# [0-9]{2}:[0-9]{2}:[0-9]{2} UTC/# TIME UTC/' "$folder/stick/kept.script"
+    play kept.db second stick/kept.script
+
+    # an order without the option: the record isn't continued, and nothing is done
+    play kept.db withdraw 7 1 --id x1
+    play kept.db withdraw 7 2 --id x2 --second stick/kept.script
+    play kept.db wards
+    # a record whose last line was cut, one that others may write to, none, and orders that take none
+    head -c -3 "$folder/stick/kept.script" >"$folder/stick/torn.script"
+    play kept.db close 7 --id n1 --second stick/torn.script
+    chmod 666 "$folder/stick/kept.script"
+    play kept.db close 7 --id n1 --second stick/kept.script
+    play kept.db close 7 --id n1 --second stick/missing.script
+    play kept.db close 7 --id n1 --second ""
+    play more.db init --second stick/kept.script
+    play kept.db close 7 --id n1 --second
 } >"$folder/played"
 compare disk-gone

@@ -24,7 +24,7 @@ pub struct RecordedTask<'a> {
     pub second: &'a str,
 }
 
-/// Returns the comment for an order that is given now: the time of day in UTC; empty if the clock fails.
+/// Returns the comment for an order that is given now: the time of day in UTC, and what it is; empty if the clock fails.
 fn comment_now(rt: &HostRuntime) -> String {
     let since = match SystemTime::now(rt) {
         Ok(now) => now.duration_since(UNIX_EPOCH),
@@ -35,7 +35,7 @@ fn comment_now(rt: &HostRuntime) -> String {
     };
     let seconds = since.as_secs() % 86_400;
     let (hour, minute, second) = (seconds / 3_600, seconds / 60 % 60, seconds % 60);
-    let text = format!(in rt.alloc(); "# {hour:02}:{minute:02}:{second:02} UTC, an order");
+    let text = format!(in rt.alloc(); "{hour:02}:{minute:02}:{second:02} UTC, an order");
     text.unwrap_or(String::new(rt.alloc()))
 }
 
