@@ -1,5 +1,5 @@
 """What stops an order or `serve`: a kill, a refusal of memory, a failing disk. Nothing that was answered is lost."""
-import collections, random, re, shutil, time
+import collections, itertools, random, re, shutil, threading, time
 from concurrent.futures import ThreadPoolExecutor
 
 from office_tools.election import COPY, COPY_LOG, FILE, election, ward_orders
@@ -129,23 +129,36 @@ class Crowd:
         wrong_if(len(self.answered) < len(CLERKS) + len(WARDS), f"of twenty clerks at once and ten orders are answered: {self.answered}")
 
     def order(self, here):
-        """Adds ten wards, one after the other, and returns what was answered, by ward. The others must print a fault of the store."""
-        printed = {f"ward {ward}": here.run("ward", ward, 2, f"Ward {ward}", "--id", f"w{ward}") for ward in WARDS}
+        """Adds ten wards, one after the other, and returns what was answered, by ward. The others must print a fault of the store.
+
+        With a record, no order begins after the kill: it would be done alone, without the record. The one that the kill meets may be.
+        """
+        printed, self.alone = {}, set()
+        for ward in itertools.takewhile(lambda _: not (self.words and self.is_over.is_set()), WARDS):
+            printed[f"ward {ward}"] = here.run("ward", ward, 2, f"Ward {ward}", "--id", f"w{ward}")
+            self.alone |= {f"ward {ward}"} if self.words and self.is_over.is_set() else set()
         other = [one for ward, one in printed.items() if one not in ((0, f"{ward} added\n", ""), (3, "", STORE))]
         wrong_if(other, f"an order for a ward prints {other}")
-        return {ward: one for ward, one in printed.items() if one.status == 0}
+        return {ward: one for ward, one in printed.items() if one.status == 0 and ward not in self.alone}
 
     def served(self, here, wait=None):
         """Returns (seconds of clerks and of orders, whose answers) of a `serve` that is killed after some seconds, or at the end."""
+        self.is_over = threading.Event()
         with here.serve(*self.words).wait() as serving, ThreadPoolExecutor(len(CLERKS) + 2) as pool:
+            def key(n):
+                try:
+                    return serving.ask(request(f"/clerks/{n}/batches/{n}/keying", body=KEYING))
+                except OSError:
+                    return b""
+
             def key_all():
-                asked = pool.map(lambda n: serving.ask(request(f"/clerks/{n}/batches/{n}/keying", body=KEYING)), CLERKS)
-                found = {f"clerk {n}": (text, WHOLE.fullmatch(text)) for n, text in zip(CLERKS, asked)}
+                found = {f"clerk {n}": (text, WHOLE.fullmatch(text)) for n, text in zip(CLERKS, pool.map(key, CLERKS))}
                 return {clerk: text for clerk, (text, parts) in found.items() if parts and len(parts[2]) == int(parts[1])}
 
             keyings, orders = pool.submit(timed, key_all), pool.submit(timed, self.order, here)
             if wait is not None:
                 time.sleep(wait)
+                self.is_over.set()
                 serving.process.kill()
             (keyed, keying), (ordered, ordering) = keyings.result(), orders.result()
         return (keying, ordering), keyed | ordered
@@ -183,12 +196,14 @@ class Crowd:
         again = Office(self.here.with_name("again")).begin()
         shutil.copyfile(here.folder / RECORD, again.folder / RECORD)
         again.do("replay", RECORD, "--cut")
-        found = self.kept(again)
+        found = self.kept(again) - self.alone
+        kept -= self.alone
         shutil.rmtree(again.folder)
         wrong_if(lost := set(answered) - found, f"what {lost} sent was answered, and is lost in the second record")
         wrong_if(max(map(len, (found - set(answered), kept - set(answered), found ^ kept))) > 1, f"{answered} answered, {found} and {kept} kept")
         says = SAME if found == kept else MORE_HERE if found < kept else MORE_THERE
-        expect("what the order `second` says", says in (printed := here.run("second", RECORD)).out + printed.err, True)
+        printed = here.run("second", RECORD)
+        expect("what the order `second` says", bool(self.alone) or says in printed.out + printed.err, True)
         return answered, found, kept
 
 def rows_of(office):
