@@ -1,9 +1,30 @@
 #!/usr/bin/env bash
 # Plays an evening whose disk is lost. Its journal is on a stick, as a second record, whose last line was cut: a new office is made from
-# it, and compared with it. Then records that lack a request, that have one more, of another office, and that aren't records; and one that
-# orders keep up to date themselves.
+# it, and compared with it. Then records that lack a request, that have one more, of another office, and that aren't records; one that orders
+# keep up to date themselves; and one that is kept while the office is served, which loses its disk in the middle of the evening.
 # shellcheck source=examples/play.bash
 source "$(dirname "$(readlink -f "${BASH_SOURCE[0]}")")/play.bash"
+
+port=$((20000 + RANDOM % 20000))
+server=
+trap '[[ -z $server ]] || kill -KILL "$server" 2>/dev/null; rm -rf "$folder"' EXIT
+
+# Serves an office with a new record on the stick, and waits until the socket for its orders is there.
+serve_recorded() {
+    echo "\$ count-office $1 serve PORT --second stick/$2"
+    (cd "$folder" && exec "$office" "$1" serve "$port" --second "stick/$2" 2>said) &
+    server=$!
+    for _ in {1..400}; do
+        if [[ -e $folder/$1-serve ]]; then return 0; fi
+        sleep 0.05
+    done
+    echo "nothing is at $1-serve"
+}
+
+# Shows a record of the stick without its times.
+show_record() {
+    sed -E 's/^# [0-9]{2}:[0-9]{2}:[0-9]{2} UTC/# TIME UTC/' "$folder/stick/$1"
+}
 
 # Keeps the journal of an office on the stick, without its comments: one line for each request.
 keep_record() {
@@ -67,7 +88,7 @@ printf '%s\n' ward,candidate,name 7,1,Ann 7,2,Bob 7,3,Cy >"$folder/names.csv"
     play kept.db candidate 7 4 --id c4 --second stick/kept.script -- "-Bob O'Neill"
     play kept.db candidate 7 4 --id c4 --second stick/kept.script -- "-Bob O'Neill"
     play kept.db candidate 7 1 Eve --id c5 --second stick/kept.script
-    sed -E 's/^# [0-9]{2}:[0-9]{2}:[0-9]{2} UTC/# TIME UTC/' "$folder/stick/kept.script"
+    show_record kept.script
     play kept.db second stick/kept.script
 
     # an order without the option: the record isn't continued, and nothing is done
@@ -83,5 +104,24 @@ printf '%s\n' ward,candidate,name 7,1,Ann 7,2,Bob 7,3,Cy >"$folder/names.csv"
     play kept.db close 7 --id n1 --second ""
     play more.db init --second stick/kept.script
     play kept.db close 7 --id n1 --second
+
+    # an office that is served with a new record; the machine stops, and its disk is lost
+    play evening.db init
+    play evening.db ward 7 1 Harbour --id w1
+    serve_recorded evening.db evening.script
+    play evening.db import-candidates names.csv --id c
+    play evening.db close 7 --id n1
+    play evening.db batch 12 7 2 4 9 --id b1
+    play evening.db key 4 12 1 1,2, 1,,2 --id k1
+    play evening.db key 4 12 1 1,2, 1,,2 --id k1 --second stick/kept.script
+    kill -KILL "$server" && { wait "$server" || true; } 2>/dev/null
+    server=
+    rm "$folder"/evening.db*
+    show_record evening.script
+    play anew.db init
+    play anew.db replay stick/evening.script --cut
+    play anew.db second stick/evening.script
+    # that record is there already, so serving begins another
+    play anew.db serve 8080 --second stick/evening.script
 } >"$folder/played"
 compare disk-gone
