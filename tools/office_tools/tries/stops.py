@@ -129,7 +129,8 @@ class Crowd:
         wrong_if(len(self.answered) < len(CLERKS) + len(WARDS), f"of twenty clerks at once and ten orders are answered: {self.answered}")
 
     def order(self, here):
-        """Adds ten wards, one after the other, and returns what was answered, by ward. The others must print a fault of the store.
+        """Adds ten wards, one after the other, and returns what was answered, by ward. The others must print a fault of the store, and so may
+        one whose reply came before the kill.
 
         With a record, no order begins after the kill: it would be done alone, without the record. The one that the kill meets may be.
         """
@@ -137,9 +138,9 @@ class Crowd:
         for ward in itertools.takewhile(lambda _: not (self.words and self.is_over.is_set()), WARDS):
             printed[f"ward {ward}"] = here.run("ward", ward, 2, f"Ward {ward}", "--id", f"w{ward}")
             self.alone |= {f"ward {ward}"} if self.words and self.is_over.is_set() else set()
-        other = [one for ward, one in printed.items() if one not in ((0, f"{ward} added\n", ""), (3, "", STORE))]
+        other = [one for ward, one in printed.items() if one not in ((0, f"{ward} added\n", ""), (3, "", STORE), (3, f"{ward} added\n", STORE))]
         wrong_if(other, f"an order for a ward prints {other}")
-        return {ward: one for ward, one in printed.items() if one.status == 0 and ward not in self.alone}
+        return {ward: one for ward, one in printed.items() if one.out and ward not in self.alone}
 
     def served(self, here, wait=None):
         """Returns (seconds of clerks and of orders, whose answers) of a `serve` that is killed after some seconds, or at the end."""
