@@ -1,12 +1,11 @@
 """A count of ballots apart from the program, written from the text of the Order alone, as tellers do it who lay papers into parcels."""
-import collections, re
+import collections, itertools, re
 
 from office_tools.office import Wrong
 
 # Values are whole hundred-thousandths of a vote.
 VOTE, CODES = 100000, range(1, 6)
-# A name, the numbers that share a rank, a number, or a comment.
-WORD = re.compile(r'"((?:[^"\\\n]|\\[^\n])*)"|([0-9]+(?:=[0-9]+)+)|(-?[0-9]+)|#([^\n]*)|\s+', re.ASCII)
+BLANKS, MOST = " \t\r", 4999500
 # What a comment of ours says, and the numbers at most; blanks, colons and commas part its words.
 OURS = {
     "ward": ("Ward ([0-9]+)", 255),
@@ -18,7 +17,11 @@ BEGINS_AS_OURS = re.compile(r"[^0-9a-z]*(ward|rejected|lot)(?![a-z])", re.ASCII 
 Bundle = collections.namedtuple("Bundle", "papers preferences")
 
 class Unreadable(Wrong):
-    """What makes a file no ballots file."""
+    """What makes a file no ballots file, and the number of the line that isn't understood, or 0."""
+
+    def __init__(self, what, line=0):
+        super().__init__(what)
+        self.line = line
 
 def require(condition, what):
     if not condition:
@@ -33,56 +36,93 @@ def told_by(comment, is_alone):
     require(not BEGINS_AS_OURS.match(comment), f"a comment that begins as ours do: {comment[:40]!r}")
     return []
 
-def words_of(text):
-    """Returns the numbers, the shared ranks and the names of a ballots file, and what our comments in it say."""
-    left, words, ours = WORD.sub("", text), [], []
-    require(not left, f"neither a number nor a name: {left[:40]!r}")
-    for found in WORD.finditer(text):
-        name, rank, number, comment = found.groups()
-        if name is not None:
-            words.append(re.sub(r'\\(["\\])', r"\1", name))
-        elif rank or number:
-            words.append(int(number) if number else tuple(map(int, rank.split("="))))
-        elif comment is not None:
-            before = text[text.rfind("\n", 0, found.start()) + 1:found.start()]
-            ours += told_by(comment, not before.strip(" \t\r"))
-    return iter(words), ours
-
-def taken(words, kind):
-    word = next(words, None)
-    require(isinstance(word, kind), f"a number or a name is wanted, and not {word!r}")
-    return word
+def number(word, most):
+    require(re.fullmatch("[0-9]+", word) and int(word) <= most, f"no number, or too large: {word[:40]!r}")
+    return int(word)
 
 class Ballots:
-    def __init__(self, content):
-        words, ours = words_of(content.decode("utf-8", "surrogateescape").removeprefix("\ufeff"))
-        highest, self.seats = taken(words, int), taken(words, int)
-        self.numbers, self.withdrawn, self.bundles = range(1, highest + 1), set(), []
-        while (papers := taken(words, int)) < 0:
-            self.withdrawn.add(-papers)
-        while papers:
-            self.bundles.append(self.bundle(papers, list(iter(lambda: taken(words, (int, tuple)), 0))))
-            papers = taken(words, int)
-        names = {number: taken(words, str) for number in self.numbers}
-        self.names = {number: name for number, name in names.items() if number not in self.withdrawn}
-        self.ward_name = taken(words, str)
-        wards, rejected, lots = ([told for what, told in ours if what == kind] for kind in OURS)
-        self.lots, has_papers = dict(lots), self.bundles or rejected
-        require(self.seats > 0 and next(words, None) is None, "no seats, or words after the ward's name")
-        require(len(wards) < 2 and len(rejected) < 2 and len(self.lots) == len(lots), "one of our comments again")
-        require(not has_papers or len(self.names) > self.seats, "papers where nobody has to be chosen")
-        self.ward, self.rejected = wards[0][0] if wards else 1, rejected[0] if rejected else [0 for _ in CODES]
+    """A ballots file, read line by line as docs/formats/ballots.md says."""
 
-    def bundle(self, papers, words):
-        """Returns so many papers with these ranks, up to the first that several share who stand, without the withdrawn."""
-        ranks = [word if isinstance(word, tuple) else (word,) for word in words]
-        shared = (place for place, rank in enumerate(ranks) if len([number for number in rank if number not in self.withdrawn]) > 1)
-        preferences = [number for rank in ranks[:next(shared, None)] for number in rank]
-        available = tuple(number for number in preferences if number not in self.withdrawn)
-        are_numbers = all(number in self.numbers for rank in ranks for number in rank)
-        is_once = len(set(preferences)) == len(preferences)
-        require(papers > 0 and is_once and are_numbers and available, f"no bundle: {papers} papers with the ranks {ranks}")
-        return Bundle(papers, available)
+    def __init__(self, content):
+        self.take, self.told, self.withdrawn, self.papers, self.texts = self.take_size, {}, set(), collections.Counter(), []
+        place, lines = 0, content.removeprefix(b"\xef\xbb\xbf").decode("utf-8", "surrogateescape").split("\n")
+        try:
+            for place, line in enumerate(lines, 1):
+                self.take_line(line)
+            require(self.take == self.take_nothing, "the name of the ward is missing")
+        except (Unreadable, UnicodeEncodeError) as error:
+            raise Unreadable(f"line {place}: {error}", place) from error
+        *names, self.ward_name = self.texts
+        self.names = {c: name for c, name in enumerate(names, 1) if c not in self.withdrawn}
+        self.bundles = [Bundle(papers, named) for named, papers in sorted(self.papers.items())]
+        self.lots = {numbers[0]: numbers[1] for (what, _), numbers in self.told.items() if what == "lot"}
+        self.ward, rejected = self.told.get(("ward", 0), [1])[0], self.told.get(("rejected", 0))
+        require(not (self.bundles or rejected) or len(self.names) > self.seats, "papers where nobody has to be chosen")
+        self.rejected = rejected or [0 for _ in CODES]
+
+    def take_line(self, line):
+        if not line.lstrip(BLANKS).startswith("#"):
+            return self.take(line) if line.strip(BLANKS) else None
+        for what, numbers in told_by(line.lstrip(BLANKS)[1:], True):
+            key = what, numbers[0] if what == "lot" else 0
+            require(key not in self.told, "one of our comments again")
+            self.told[key] = numbers
+
+    def words(self, line, count=None):
+        numbers, _, comment = line.partition("#")
+        told_by(comment, False)
+        words = re.findall(f"[^{BLANKS}]+", numbers)
+        require(count in (None, len(words)), "another number of words")
+        return words
+
+    def candidate(self, word):
+        require(number(word, self.highest) > 0, "no candidate")
+        return int(word)
+
+    def take_size(self, line):
+        highest, seats = self.words(line, 2)
+        self.highest, self.seats, self.take = number(highest, 30), number(seats, 15), self.take_withdrawn
+        require(self.seats > 0, "no seats")
+
+    def take_withdrawn(self, line):
+        words = self.words(line)
+        if not words[0].startswith("-"):
+            self.take = self.take_papers
+            return self.take_papers(line)
+        require(all(word.startswith("-") for word in words), "no minus")
+        self.withdrawn.update(self.candidate(word[1:]) for word in words)
+
+    def take_papers(self, line):
+        """Reads so many papers with these ranks, up to the first that several share who stand, without the withdrawn."""
+        words = self.words(line)
+        if words == ["0"]:
+            self.take = self.take_name
+            return
+        papers, ranks = number(words[0], MOST), [[self.candidate(c) for c in word.split("=")] for word in words[1:-1]]
+        read = itertools.takewhile(lambda rank: len([c for c in rank if c not in self.withdrawn]) < 2, ranks)
+        named = [c for rank in read for c in rank]
+        preferences = tuple(c for c in named if c not in self.withdrawn)
+        require(papers and words[-1] == "0" and preferences and len(set(named)) == len(named), "no papers")
+        self.papers[preferences] += papers
+        require(self.papers.total() <= MOST, "too many papers")
+
+    def take_name(self, line):
+        found = re.fullmatch(f'[{BLANKS}]*"((?:[^"\\\\]|\\\\.)*)"[{BLANKS}]*(?:#(.*))?', line, re.DOTALL)
+        require(found, "no name in quotation marks")
+        told_by(found[2] or "", False)
+        self.texts.append(re.sub(r'\\(["\\])', r"\1", found[1]))
+        require(len(self.texts[-1].encode()) <= 1000, "a name that is too long")
+        self.take = self.take_name if len(self.texts) <= self.highest else self.take_nothing
+
+    def take_nothing(self, line):
+        require(not line, "a line behind the ward's name")
+
+    def lines(self):
+        """Returns the same ballots as the program prints them. Lots of an uncontested ward are left out."""
+        names = [self.names.get(c, "withdrawn") for c in range(1, self.highest + 1)]
+        lines = blt(self.seats, self.bundles, names, self.rejected, self.ward_name, self.ward, sorted(self.withdrawn))
+        lots = [f"# Lot at stage {stage}: {c}" for stage, c in sorted(self.lots.items())]
+        return lines + lots if len(self.names) > self.seats else lines[:-1]
 
 def votes_text(value):
     return f"{value // VOTE}.{value % VOTE:05}"

@@ -3,7 +3,7 @@ import collections, contextlib, itertools, os, random, re, sys
 
 from office_tools.election import Ward, damaged, judged, sealed_office
 from office_tools.office import Table, about, checker, timed, wrong_if
-from office_tools.recount import Ballots, Count, Unreadable, blt, counts, require, told_by, written
+from office_tools.recount import BLANKS, MOST, Ballots, Count, Unreadable, blt, counts, require, written
 
 # Characters that could steer a terminal: a question mark is shown for each.
 STEERS = re.compile("[\0-\x09\x0b-\x1f\x7f-\x9f\u061c\u200e\u200f\u202a-\u202e\u2066-\u2069]")
@@ -179,109 +179,18 @@ def cases(chance):
         differs = b"line %d differs" % (same.count(b"\n") + 1)
         yield "damaged sheets", ballots, text, [1], differs
 
-BLANKS, WARD, MOST = " \t\r", 'Harbour "7"', 4999500
-
-def number(word, most):
-    require(re.fullmatch("[0-9]+", word) and int(word) <= most, "no number, or too large")
-    return int(word)
-
-class BallotsLines:
-    """A ballots file, read line by line as docs/formats/ballots.md says."""
-
-    def __init__(self):
-        self.take, self.told, self.gone, self.bundles, self.names = self.take_size, {}, set(), collections.Counter(), []
-
-    def candidate(self, word):
-        require(number(word, self.highest) > 0, "no candidate")
-        return int(word)
-
-    def take_size(self, line):
-        highest, seats = self.words(line, 2)
-        self.highest, self.seats, self.take = number(highest, 30), number(seats, 15), self.take_withdrawn
-        require(self.seats > 0, "no seats")
-
-    def words(self, line, count=None):
-        numbers, sign, comment = line.partition("#")
-        told_by(comment, False)
-        words = re.findall("[^ \t\r]+", numbers)
-        require(count in (None, len(words)), "another number of words")
-        return words
-
-    def take_withdrawn(self, line):
-        words = self.words(line)
-        if not words[0].startswith("-"):
-            self.take = self.take_papers
-            return self.take_papers(line)
-        require(all(word.startswith("-") for word in words), "no minus")
-        self.gone.update(self.candidate(word[1:]) for word in words)
-
-    def take_papers(self, line):
-        words = self.words(line)
-        if words == ["0"]:
-            self.take = self.take_name
-            return
-        papers, ranks = number(words[0], MOST), [[self.candidate(c) for c in word.split("=")] for word in words[1:-1]]
-        read = itertools.takewhile(lambda rank: len([c for c in rank if c not in self.gone]) < 2, ranks)
-        named = [c for rank in read for c in rank]
-        preferences = tuple(c for c in named if c not in self.gone)
-        require(papers and words[-1] == "0" and preferences and len(set(named)) == len(named), "no papers")
-        self.bundles[preferences] += papers
-        require(self.bundles.total() <= MOST, "too many papers")
-
-    def take_name(self, line):
-        found = re.fullmatch(f'[{BLANKS}]*"((?:[^"\\\\]|\\\\.)*)"[{BLANKS}]*(?:#(.*))?', line, re.DOTALL)
-        require(found, "no name in quotation marks")
-        told_by(found[2] or "", False)
-        name = re.sub(r'\\(["\\])', r"\1", found[1])
-        require(len(name.encode()) <= 1000, "a name that is too long")
-        self.names.append(name)
-        self.take = self.take_name if len(self.names) <= self.highest else self.take_nothing
-
-    def take_nothing(self, line):
-        require(not line, "a line behind the ward's name")
-
-    def take_line(self, line):
-        if not line.lstrip(BLANKS).startswith("#"):
-            return self.take(line) if line.strip(BLANKS) else None
-        for what, numbers in told_by(line.lstrip(BLANKS)[1:], True):
-            told = self.told.setdefault(what, {})
-            key = numbers[0] if what == "lot" else what
-            require(key not in told, "a second time")
-            told[key] = numbers[-1] if what == "lot" else numbers
-
-    def lines(self):
-        """Returns the same ballots as the program prints them. Lots of an uncontested ward are left out."""
-        names = ["withdrawn" if c in self.gone else name for c, name in enumerate(self.names[:-1], 1)]
-        rejected, ward = self.told.get("rejected", {}).get("rejected"), self.told.get("ward", {}).get("ward", [1])[0]
-        bundles = [(papers, named) for named, papers in sorted(self.bundles.items())]
-        lines = blt(self.seats, bundles, names, rejected or [0] * 5, self.names[-1], ward, sorted(self.gone))
-        if len(names) - len(self.gone) > self.seats or bundles or rejected:
-            return [*lines, *(f"# Lot at stage {stage}: {c}" for stage, c in sorted(self.told.get("lot", {}).items()))]
-        return lines[:-1]
-
-def read_ballots(content):
-    """Returns the lines of a ballots file as the program prints it, or the number of the first line that isn't understood."""
-    ballots, lines = BallotsLines(), content.removeprefix(b"\xef\xbb\xbf").decode("utf-8", "surrogateescape").split("\n")
-    for place, line in enumerate(lines, 1):
-        try:
-            ballots.take_line(line)
-        except (Unreadable, UnicodeEncodeError):
-            return place
-    return ballots.lines() if ballots.take == ballots.take_nothing else len(lines)
-
 def compare_read(content):
     """Compares what the program makes of a ballots file with what is read and counted here. Returns what that is."""
-    lines, refused = read_ballots(content), b"error: no more candidates than seats"
-    if isinstance(lines, int):
-        refused = b"error: line %d of the ballots: " % lines
-    else:
-        with contextlib.suppress(Unreadable):
-            count = Count(Ballots(written(lines)))
-            is_among = not count.waits or count.waits[0] not in count.lots
-            if is_among and (count.waits or not count.lots):
-                compare_counted(content, ["--count", "-"], count, {"": count.sheet(), "--ballots": written(lines)}, {})
-                return "counted"
-            refused = b"error: a lot is recorded for stage " if is_among else b"error: the lot for stage %d " % count.waits[0]
+    refused = b"error: no more candidates than seats"
+    try:
+        count = Count(Ballots(content))
+        is_among = not count.waits or count.waits[0] not in count.lots
+        if is_among and (count.waits or not count.lots or not count.is_contested):
+            compare_counted(content, ["--count", "-"], count, {"": count.sheet(), "--ballots": written(count.ballots.lines())}, {})
+            return "counted"
+        refused = b"error: a lot is recorded for stage " if is_among else b"error: the lot for stage %d " % count.waits[0]
+    except Unreadable as error:
+        refused = b"error: line %d of the ballots: " % error.line if error.line else refused
     status, out, err = checker("--count", "-", input=content)
     wrong_if(status != 2 or out or not err.startswith(refused), f"{refused} is wanted: status {status}, {err}, {out[:200]}")
     return "refused"
@@ -305,8 +214,8 @@ def try_hostile_ballots(room, wards=100, seed=1):
     - Nothing that it prints has a character that steers a terminal, though some names have.
     - Of ballots that were damaged at random it reports that it doesn't understand them, and the line, or says whether they give the sheet.
       Files that no program writes (EXTREME) it doesn't understand, each in about a second.
-    - All ballots but EXTREME are read here a second time, line by line, by what docs/formats/ballots.md says, and counted by `tools/try
-      recount`. The program that counts without an office must print the same sheet and ballots, or refuse the file at the same line.
+    - All ballots but EXTREME are read and counted by `tools/try recount`, by what docs/formats/ballots.md says. The program that counts
+      without an office must print the same sheet and ballots, or refuse the file at the same line.
     """
     runs, read = collections.defaultdict(collections.Counter), collections.defaultdict(collections.Counter)
     for ward in range(wards):
@@ -320,6 +229,7 @@ def try_hostile_ballots(room, wards=100, seed=1):
     slowest = max(timed(checked, room, what, content, b"", [2], b"error: ")[1] for what, content in EXTREME.items())
     table.row(f"files that no program writes, at most {slowest:.1f} s each", len(EXTREME), 0, 0, len(EXTREME), "", "")
 
+WARD = 'Harbour "7"'
 VOTERS = ["Ann", "Bob", "Cy, jr.", 'D. "Dee"', "Eve", "Fay # 1", "-x", "Zoë", "G\\H", "<b>I</b>", " J ", "Rankin", "Countess", "Choices"]
 MARKS = [b",", b'"', b"\n", b"\r", b"0", b"99", b"100", b"\xff", b"rank1", b"count", b";", b"Ann", b"31"]
 # Words with which the name of a column begins that may be something other than a candidate's.
@@ -399,9 +309,9 @@ def read(content, seats, candidates):
     columns, bundles, place = None, collections.Counter(), 0
     for place, line in enumerate(content.decode("utf-8", "surrogateescape").removeprefix("\ufeff").split("\n"), 1):
         try:
-            if columns is None and line.strip(" \t\r"):
+            if columns is None and line.strip(BLANKS):
                 columns = columns_in(line.removesuffix("\r"), candidates)
-            elif line.strip(" \t\r"):
+            elif line.strip(BLANKS):
                 papers, preferences = paper_in(line.removesuffix("\r"), columns)
                 bundles[preferences] += papers
         except (Unreadable, UnicodeEncodeError):
