@@ -1,7 +1,7 @@
 # How a clone keeps its two programs, for count-office and tools/build: both set `here` to the clone's folder, and read this file.
 #
-# out/BUILT-FROM says of which sources the programs in out/ are. out/listing has the times of these sources, as they were when the
-# two were compared: one look at the folders shows whether a source changed since.
+# out/BUILT-FROM says of which sources the programs in out/ are. out/compared is empty: its time is two seconds before the two were last
+# compared. A file that was written, renamed or moved since, or its folder, is newer, by the time of change that nobody can set.
 # shellcheck shell=sh disable=SC2154
 
 out=$here/out
@@ -11,23 +11,11 @@ fail() {
     exit 4
 }
 
-# Becomes find, over the sources of the programs: the code of the crates, and what is promised of it. Proofs and tests change neither.
-sources() {
-    export LC_ALL=C
-    cd "$here" && exec find crates/*/src crates/*/specs crates.txt -path '*_tests/*' -prune -o -type f -name '*.*t' "$@"
-}
-
-# The time is that of the last change to a file or to its attributes: nobody can set it.
-listing() {
-    sources -printf '%p %C@\n'
-}
-
+# The digest of the sources of the programs: the code of the crates, and what is promised of it. Proofs and tests change neither.
 digest() {
-    sources -print0 | LC_ALL=C sort -z | (cd "$here" && xargs -0 sha256sum) | sha256sum | cut -d ' ' -f 1
-}
-
-is_listed() {
-    listing 2>/dev/null | cmp -s - "$out/listing"
+    (export LC_ALL=C && cd "$here" &&
+        find crates/*/src crates/*/specs crates.txt -path '*_tests/*' -prune -o -type f -name '*.*t' -print0 | sort -z |
+        xargs -0 sha256sum) | sha256sum | cut -d ' ' -f 1
 }
 
 # Whether the programs of a folder are of the sources that have this digest.
@@ -49,7 +37,7 @@ begin() {
 # Puts the programs of out/new in their place. BUILT-FROM is removed first and put last, so it is never next to programs of other sources.
 put() {
     "$out/new/count-office" --version >/dev/null || fail "this machine can't run $out/new/count-office, which is for Linux on x86-64"
-    { sync "$out"/new/* && rm -f "$out/BUILT-FROM" "$out/listing" && mv -f "$out/new/count-office" "$out/new/check-count" "$out" &&
+    { sync "$out"/new/* && rm -f "$out/BUILT-FROM" "$out/compared" && mv -f "$out/new/count-office" "$out/new/check-count" "$out" &&
         mv "$out/new/BUILT-FROM" "$out" && rmdir "$out/new"; } || fail "the programs couldn't be put into $out"
 }
 
@@ -66,18 +54,17 @@ unpack() {
     echo "count-office: this is $archive, which was made from these sources; tools/build proves and builds them here" >&2
 }
 
-# Makes sure that out/ has the programs of these sources, and keeps the listing. A source that changed within the last two seconds could
-# change again and be listed just the same: then the next call compares the sources once more.
+# Makes sure that out/ has the programs of these sources. A source that changes meanwhile, or changed within the last two seconds, is newer
+# than out/compared: then the next call compares them once more.
 make_ready() {
-    listed=$(listing)
-    fresh=$(sources -newerct '2 seconds ago' -print -quit)
-    own=$(digest)
     lock
+    if [ -w "$out" ]; then touch "$out/compared.new" && touch -r "$out/compared.new" -d '-2 seconds' "$out/compared.new"; fi
+    own=$(digest)
     if ! { [ -x "$out/count-office" ] && [ -x "$out/check-count" ] && is_of "$out" "$own"; }; then
         is_of "$here/release" "$own" ||
             fail "no program here was built from these sources: type $here/tools/build, which needs rt and takes half an hour or more"
         unpack
     fi
-    if [ -z "$fresh" ] && [ -w "$out" ]; then printf '%s\n' "$listed" >"$out/listing.new" && mv "$out/listing.new" "$out/listing"; fi
+    if [ -w "$out" ]; then mv "$out/compared.new" "$out/compared"; fi
     return 0
 }
