@@ -6,10 +6,10 @@ from office_tools.office import ROOT, needs, side_by_side, wrong_if
 NOISE = re.compile(r'//[^\n]*|b?"(?:\\.|[^"\\])*"|b?\'(?:\\.[^\'\n]*|[^\'\\\n])\'', re.S)
 TESTS = re.compile(r"#\[cfg\(test\)\]\s*mod tests \{|\Z")
 # As `rt fmt` lays a function out, its clauses are deeper than it is, and its body begins and ends just there.
-FUNCTION = re.compile(r"^( *)(pub |pub\(\w+\) )?(?:const )?(fn (\w+)[^{]*?(?:^ *(?:ensures|requires)\b.*?(?=^\1\{|;$(?!\n\1 )))?)"
+FUNCTION = re.compile(r"^( *)(?:pub |pub\(\w+\) )?(?:const )?(fn (\w+)[^{]*?(?:^ *(?:ensures|requires)\b.*?(?=^\1\{|;$(?!\n\1 )))?)"
                       r" *(?:;|(\{\}|\{\n.*?^\1\}))$", re.M | re.S)
 CLAUSE = re.compile(r"^ *(ensures|requires)\b\*? *(\w*)\*? *\{\W*(\w*)", re.M)
-BLOCK = re.compile(r"^ *(pub |pub\(\w+\) )?((impl|trait)\b[^{};]*)\{", re.M)
+BLOCK = re.compile(r"^ *(?:pub |pub\(\w+\) )?((impl|trait)\b[^{};]*)\{", re.M)
 # Words of specs/ that say what several clauses say, each with its record, whose fields those are.
 WORDS = {"Migrates": "Migrates", "CopiesTo": "CopiesTo", "Loads": "LoadsAt", "Alters": "Alters"}
 
@@ -30,12 +30,11 @@ class Function:
     """
 
     def __init__(self, path, source, found):
-        blanks, public, told, self.name, body = found.groups()
+        blanks, told, self.name, body = found.groups()
         self.path, self.start, self.end, self.body = path, found.start(3), found.end(), body or ""
         # The last block that begins before it is its own, unless it is in none.
-        shown, block, kind = BLOCK.findall(found.string, 0, found.start())[-1] if blanks else ("", "", "")
+        block, kind = BLOCK.findall(found.string, 0, found.start())[-1] if blanks else ("", "")
         self.owners, self.in_trait_impl = owners_of(block), kind == "impl" and " for " in block
-        self.public = "pub " in (public, shown if kind == "trait" else "")
         self.title = f"{self.owners[0]}::{self.name}" if self.owners else self.name
         self.head, clauses = re.split(r"^ *(?:ensures|requires)\b", told, flags=re.M)[0], CLAUSE.findall(told)
         self.ensures, self.requires = ([name for kind, name, _ in clauses if kind == own] for own in ("ensures", "requires"))
@@ -61,14 +60,6 @@ class Crate:
         self.records = {name: re.findall(rf"^{blanks}  pub (\w+) :", lines, re.M) for blanks, name, lines in records}
         edits = (path for part in ("must-fail", "wrong-bodies") for path in sorted(folder.glob(part + "/*.edit")))
         self.edits = {path.stem: path.read_text() for path in edits}
-        declared = "\n".join(self.texts.values())
-        self.used = set(re.findall(r"\w+", " ".join(re.findall(r"^pub use ([^;]*);", declared, re.M))))
-        self.open_modules = {"lib", *re.findall(r"^pub mod (\w+);", declared, re.M)}
-
-    def is_shown(self, function):
-        """Returns whether a function is public, and its module is open or its type named by a `pub use`."""
-        is_open = self.open_modules.issuperset(function.module)
-        return "src/lib.rt" in self.texts and function.public and (is_open or (function.owners or [function.name])[0] in self.used)
 
     def text_at(self, path):
         return (self.folder / path).read_text() if (self.folder / path).is_file() else ""
@@ -158,29 +149,7 @@ NUMBERED = [
     ("codes fault {}: ", "codes/specs/Faults.antt", "fault_number", "fault_text"),
 ]
 OF = re.compile(r"((?:`\w+`(?:, | and ))*`\w+`) of ((?:`[\w:]+`(?:, | and ))*`[\w:]+`)")
-HEAD = """# Every public function and its clauses
-
-Made by `tools/check proofs --write`. Each function is proved safe, to return, and to meet its clauses, which are above its body in the \
-sources. A *wrong body* is an edit that the contract of its own crate refuses. There are {} public functions with {} clauses, and {} edits.
-"""
 QUOTES = re.compile(r"`([^`]*)`")
-
-def listed(names):
-    return ", ".join(f"`{name}`" if name else "one without a name" for name in names) or "–"
-
-def table_of(crate):
-    """Yields the table of a crate's functions and wrong bodies, with its heading; nothing if there is no row."""
-    edits, head = collections.defaultdict(list), "| function | what it does | clauses | wrong bodies refused |\n|---|---|---|---|"
-    for name, edit in crate.edits.items():
-        for target in crate.functions_of(edit) or [path for path, *_ in changes_of(edit)][:1]:
-            edits[target].append(name)
-    shown = [f for f in crate.functions if crate.is_shown(f) or f in edits]
-    yield from [f"\n## `{crate.name}`\n", head] * bool(shown or edits)
-    for f in shown:
-        sentence = " ".join(re.split(r"(?<=[^.]\.)\s|\n\s*\n", f.comment.strip() + " ")[0].replace("|", "\\|").split()).rstrip(".")
-        where = "" if crate.is_shown(f) else f", within `{f.path}`"
-        yield f"| `{f.title}`{where} | {sentence or '–'} | {listed(f.ensures)} | {listed(edits.pop(f, []))} |"
-    yield from (f"| in `{path}` | – | – | {listed(names)} |" for path, names in edits.items())
 
 def clauses_of(crates):
     """Returns {name of a function, with its type and without: its clauses}"""
@@ -233,22 +202,15 @@ def faults_of(crates):
                 faults = missing_of_text(line, clauses, words)
             yield from (f"{page.name}:{number}: {fault}" for fault in faults)
 
-def check_proofs(*, write=False):
+def check_proofs():
     """Compares what the pages of docs/ name of the sources with them.
 
     Each row of a table | crate | promise | where | of docs/engineering/proofs.md and limits.md names in its last column functions of the
     crate and, after a colon, clauses of each, in parts like `Office::run`: `headline`, `answers`; `order`: `ok`. In their text, and in
     lines about definitions of PAGES, `opened`, `told` of `Store::open_from` names clauses of a function, and each word in backticks is one
     of the sources. Each refusal and fault has its heading in docs/officer/when-it-says-no.md, each edit's old text is once in its file.
-    --write makes out/proofs-table.md, a table of all functions and clauses.
     """
-    found = crates()
-    if write:
-        shown = [function for crate in found for function in crate.functions if crate.is_shown(function)]
-        head = HEAD.format(len(shown), sum(len(it.ensures) for it in shown), sum(len(crate.edits) for crate in found))
-        (ROOT / "out").mkdir(exist_ok=True)
-        (ROOT / "out/proofs-table.md").write_text("\n".join([head, *(line for it in found for line in table_of(it)), ""]), "utf-8")
-    yield from faults_of(found)
+    yield from faults_of(crates())
     headings, wanted = re.findall(r"^### `(.*)`$", MESSAGES.read_text(), re.M), []
     for front, file, number, text in NUMBERED:
         definitions = (ROOT / "crates" / file).read_text()

@@ -371,10 +371,6 @@ def try_console_hostile(pictures: Path = None, *, only: str = ""):
         with played(pictures, Officer, Screen, words=words) as [officer, screen]:
             play(officer, screen)
 
-def try_hall_screen(pictures: Path = None):
-    """Plays the screen in the hall in Chromium with the longest names, which is the play *names* of console-hostile."""
-    try_console_hostile(pictures, only="names")
-
 CLERK, BATCHES, ELSEWHERE = 4, range(100, 150), "elsewhere.example"
 # Words for Chromium: the name leads to this machine, and no newer guard of its own stands before that of the office.
 LOOSE = ("--disable-features=LocalNetworkAccessChecks,BlockInsecurePrivateNetworkRequests", f"--host-resolver-rules=MAP {ELSEWHERE} {HERE}")
