@@ -1,8 +1,7 @@
 """The entry points tools/try, tools/bench and tools/check: `tools/try NAME` calls the function try_NAME of a module in tries/.
 
 Its parameters are the tool's words: those with a default may be left out, and those by keyword alone are options. An annotation, or the
-type of the default, says how a word is read. `room` is no word, but an empty folder that is removed at the end.
-"""
+type of the default, says how a word is read. `room` is no word, but an empty folder that is removed at the end."""
 import argparse, ast, importlib, inspect, sys
 from pathlib import Path
 

@@ -68,8 +68,7 @@ def election(copies=1):
     """Returns the orders of an election of two seats, with nine valid papers, or so many copies of them, and a doubtful one.
 
     The batch is given out once more by a file, under the id that it has, which does nothing. The first candidate has the quota, the fourth
-    is excluded, and a lot is drawn between the two others. The second clerk errs once; a third one is set, and all may key again.
-    """
+    is excluded, and a lot is drawn between the two others. The second clerk errs once; a third one is set, and all may key again."""
     papers = (["1,,,"] * 4 + [",1,,", ",1,,2", ",,1,", ",,1,", ",,,1"]) * copies + ["D"]
     right, wrong, size = keying(papers, range(1, 5)), keying(["1,2,,", *papers[1:]], range(1, 5)), len(papers)
     # More papers leave the first candidate a surplus, which is a stage of its own.

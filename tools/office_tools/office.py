@@ -284,8 +284,7 @@ class Office:
     def rows(self, town=TOWN):
         """Returns every row of every table, or None if there is no office, as Python's own SQLite reads a copy; the file must be whole.
 
-        An `init` that was stopped may leave a file without the first byte of a database's.
-        """
+        An `init` that was stopped may leave a file without the first byte of a database's."""
         with temporary_folder() as folder, contextlib.closing(sqlite3.connect(self.copied(folder, town).folder / TOWN)) as base:
             try:
                 whole = base.execute("PRAGMA integrity_check").fetchall()

@@ -144,8 +144,7 @@ class Count:
     """The count of a ward: as many stages as its lots let it have.
 
     A candidate has parcels, each with the value at which its papers came, and votes. Those of `None` are non-transferable. The letters are
-    those of the sheet: - for a continuing candidate, E at the stage of the election and e after it, x once excluded.
-    """
+    those of the sheet: - for a continuing candidate, E at the stage of the election and e after it, x once excluded."""
 
     def __init__(self, ballots):
         self.ballots, self.stages, self.figures, self.lost = ballots, [], [], 0

@@ -23,8 +23,7 @@ def check_links():
     """Compares the links of the pages with what they lead to.
 
     A link within the repository leads to a file that is there, and what comes after its # is a heading of that page. Each refusal, file
-    fault and fault that the pages of GUIDE show as printed has a link there to its own heading in docs/officer/when-it-says-no.md.
-    """
+    fault and fault that the pages of GUIDE show as printed has a link there to its own heading in docs/officer/when-it-says-no.md."""
     for page in pages():
         for target in LINK.findall(re.sub(r"`[^`\n]*`", "code", FENCED.sub("", page.read_text(encoding="utf-8")))):
             file, _, heading = target.partition("#")
@@ -110,8 +109,7 @@ def check_plain():
     A sentence ends at a full stop, a question mark or an exclamation mark before a blank; so does the cell of a table, an item of a list,
     and a heading. Those of fewer than 4 words and code in fences aren't counted. Each page has a share of sentences of more than 30 words
     that it may have, in a hundred; no sentence of a comment in src/ and specs/ may have more than 40. Each of IDIOMS is printed with its
-    line and what to write instead; a line that may have one is named in ALLOWED, by a part of it.
-    """
+    line and what to write instead; a line that may have one is named in ALLOWED, by a part of it."""
     allowed = {name: share for share, names in SHARES.items() for name in names.split()}
     found = [is_over(page.relative_to(ROOT), [page.read_text()], MOST, allowed.get(page.stem, OTHERS)) for page in pages()]
     for crate in sorted((ROOT / "crates").iterdir()):
@@ -149,8 +147,7 @@ def check_results(*, write=False, of=""):
 
     Each of its sections is of one tool: its name, the first sentence of its documentation, and from **Last run** on what it printed last,
     with what has to be known of that run. --write makes the names and sentences anew. With --of, as in `tools/try killed | tools/check
-    results --write --of killed`, the tables that it reads replace those of that tool; lines that aren't of tables are left out.
-    """
+    results --write --of killed`, the tables that it reads replace those of that tool; lines that aren't of tables are left out."""
     there = RESULTS.read_text(encoding="utf-8")
     head, *sections = re.split(r"^## `([^`]*)`\n", there, flags=re.M)
     results = {tool: text.partition(LAST)[2].strip() for tool, text in zip(sections[::2], sections[1::2])}
@@ -211,8 +208,7 @@ def check_orders(room):
 
     These are what `--help` tells of the words of orders, and their examples; the tables of orders and of words, with their ranges, in
     docs/formats/orders.md; the orders that a script may have, in docs/formats/files.md; the orders that examples/help.sh plays; and the
-    election of tools/try, which has each order that a script may have. Which these are, the program tells of a script of one line.
-    """
+    election of tools/try, which has each order that a script may have. Which these are, the program tells of a script of one line."""
     commands, lists = listed(program())
     orders = {told.name: Order(told) for told in orders_of(program())}
     yield from unlike("--help", [*commands, *(name for name, _ in lists)], orders)
@@ -247,8 +243,7 @@ def printed_by(*words):
 def check_lan():
     """Compares the configuration of nginx that count-office-lan writes with that of docs/officer/network.md, and tries wrong words.
 
-    Both have to be the same but for the paths of the certificate and its key. What is refused ends with status 2 and a sentence.
-    """
+    Both have to be the same but for the paths of the certificate and its key. What is refused ends with status 2 and a sentence."""
     page = re.search(r"```nginx\n(.*?)```", (ROOT / "docs/officer/network.md").read_text(encoding="utf-8"), re.DOTALL)[1]
     own = OWN.sub(lambda path: DOCUMENTED[path[1]], printed_by(NAME, "--network", NETWORK, "--port", "8080").out)
     differing = [lines for lines in itertools.zip_longest(page.split("\n"), own.split("\n")) if len(set(lines)) > 1][:1]

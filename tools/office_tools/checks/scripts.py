@@ -59,8 +59,7 @@ def check_page():
 
     A page is ASCII, has one script and one style, loads nothing from elsewhere, makes no markup of a text, and has no style or handler in
     an attribute. Its policy has the SHA-256 of script and style. If COUNT_OFFICE names a program, the pages that it serves and the policies
-    of their responses are compared with the sources, byte for byte.
-    """
+    of their responses are compared with the sources, byte for byte."""
     wrong = [f"{crate}: {fault}" for crate in PAGES for fault in wrong_in(*page_of_sources(crate))]
     served = SERVED.items() if os.environ.get("COUNT_OFFICE") else ()
     return wrong or [f"{crate}: {fault}" for crate, where in served for fault in wrong_served(crate, *where)]
@@ -98,8 +97,7 @@ def check_script(room, file: Path = None):
     A clerk is denied, lists batches, keys papers and sends them, and the office accepts the keying, refuses it, fails or doesn't answer.
     The screen in the hall shows wards of an office that changes, and that may be down. The officer at the console seals a ward, is warned
     of batches that have the same papers, puts orders right in a new office, and downloads forms; `tools/try console-evening` plays whole
-    evenings there. Then faults are planted in the pages, and each must be noticed. FILE is a page for clerks as a program serves it.
-    """
+    evenings there. Then faults are planted in the pages, and each must be noticed. FILE is a page for clerks as a program serves it."""
     needs("node")
     wrong_if(not (MODULES / "jsdom").exists(), "jsdom is missing; on Debian: apt-get install node-jsdom")
     chance, clerks = random.Random(11), file.read_text(encoding="utf-8") if file else page_of_sources()[0]

@@ -26,8 +26,7 @@ class Function:
     """A function of a crate: its file below the crate's folder, where it begins and ends there, the types and the trait of its block.
 
     It has the comment above it, the names of its clauses, and the first word of each of `ensures` by its name. Its head, from `fn` to the
-    contract, and its body are without comments and literals.
-    """
+    contract, and its body are without comments and literals."""
 
     def __init__(self, path, source, found):
         blanks, told, self.name, body = found.groups()
@@ -124,8 +123,7 @@ def check_code():
     pyflakes reads all Python, and shellcheck all shell; they find nothing. A function has at most five parameters besides itself and the
     allocator, and 40 lines; those that have more are named here, and one that needn't be is reported too. A line has at most 200
     characters, but for texts that are fixed. The comment above a function that calls itself by its own name states a bound, as
-    `Recurses at most 30 times.`, which is one of the program's own; methods of a trait, and functions that call each other, aren't seen.
-    """
+    `Recurses at most 30 times.`, which is one of the program's own; methods of a trait, and functions that call each other, aren't seen."""
     needs("pyflakes3", "shellcheck")
     listed = subprocess.run(["git", "ls-files", "-co", "--exclude-standard"], cwd=ROOT, capture_output=True, text=True, check=True).stdout
     found = collections.defaultdict(list)
@@ -208,8 +206,7 @@ def check_proofs():
     Each row of a table | crate | promise | where | of docs/engineering/proofs.md and limits.md names in its last column functions of the
     crate and, after a colon, clauses of each, in parts like `Office::run`: `headline`, `answers`; `order`: `ok`. In their text, and in
     lines about definitions of PAGES, `opened`, `told` of `Store::open_from` names clauses of a function, and each word in backticks is one
-    of the sources. Each refusal and fault has its heading in docs/officer/when-it-says-no.md, each edit's old text is once in its file.
-    """
+    of the sources. Each refusal and fault has its heading in docs/officer/when-it-says-no.md, each edit's old text is once in its file."""
     yield from faults_of(crates())
     headings, wanted = re.findall(r"^### `(.*)`$", MESSAGES.read_text(), re.M), []
     for front, file, number, text in NUMBERED:
@@ -295,8 +292,7 @@ def check_wrong_bodies(*crates, built=False, gate=False, minutes: int = None):
     A crate and those below it are built first if they aren't, and so the crate is known to be proved as it is. --built takes the crates as
     `rt ci` leaves them in out/, and tries several side by side. --gate does this with all crates but count_office, desk, office and store,
     which cost a whole proof. Prints a line for each wrong body, and ends with status 1 if one wasn't refused. With --minutes N it begins
-    with no crate once N minutes have passed, and names the crates that it had no time for.
-    """
+    with no crate once N minutes have passed, and names the crates that it had no time for."""
     end = time.monotonic() + 60 * minutes if minutes is not None else float("inf")
     os.chdir(ROOT)
     edits = collections.defaultdict(dict)

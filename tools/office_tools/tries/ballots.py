@@ -60,8 +60,7 @@ def try_recount(room, ballots="", *, wards=0, seed=1):
 
     With --wards N wards are made up and played to their declarations. At each lot and at the end `ballots` must print the papers that were
     made up, and `sheet` the recount's sheet, byte for byte; a lot is asked for just where the recount stops, among the same candidates. The
-    program that needs no office counts the first ballots with the same lots, and must print the office's own texts.
-    """
+    program that needs no office counts the first ballots with the same lots, and must print the office's own texts."""
     if wards:
         totals = collections.Counter()
         for place in range(1, wards + 1):
@@ -215,8 +214,7 @@ def try_hostile_ballots(room, wards=100, seed=1):
     - Of ballots that were damaged at random it reports that it doesn't understand them, and the line, or says whether they give the sheet.
       Files that no program writes (EXTREME) it doesn't understand, each in about a second.
     - All ballots but EXTREME are read and counted by `tools/try recount`, by what docs/formats/ballots.md says. The program that counts
-      without an office must print the same sheet and ballots, or refuse the file at the same line.
-    """
+      without an office must print the same sheet and ballots, or refuse the file at the same line."""
     runs, read = collections.defaultdict(collections.Counter), collections.defaultdict(collections.Counter)
     for ward in range(wards):
         for what, content, *case in cases(random.Random(f"{seed} {ward}")):
@@ -345,8 +343,7 @@ def try_hostile_records(wards=1000, seed=1):
     """Gives the program that counts ballots without an office cast-vote records of made-up wards, and files that are no such records.
 
     Records are read here a second time, by what docs/formats/records.md says, and counted by `tools/try recount`. The program, which
-    CHECK_COUNT names, must print the same sheet and ballots, ask for the same lots, and refuse the same files at the same line.
-    """
+    CHECK_COUNT names, must print the same sheet and ballots, ask for the same lots, and refuse the same files at the same line."""
     found = collections.Counter()
     for ward in range(wards):
         chance = random.Random(f"{seed} {ward}")

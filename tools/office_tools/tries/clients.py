@@ -30,8 +30,7 @@ def try_hostile_clients(room):
 
     One that is disconnected comes again. Meanwhile a good client, with clerk 4's code, gets the same response each time, within three
     seconds. The others ask under another clerk's number, with that clerk's code as far as they send it whole. At the end the office holds
-    the rows that it held, and `serve` has printed nothing. All takes a minute.
-    """
+    the rows that it held, and `serve` has printed nothing. All takes a minute."""
     open_many_files()
     office = Office(room).begin(ward_orders((12, 2, 4, 9), *((1000 + number, 2, READER, 9) for number in range(BATCHES))))
     office.write_codes(READER_CODES)
@@ -104,8 +103,7 @@ def try_both_addresses(room):
     A request at 127.0.0.1, at `[::1]` and at `localhost` is answered, and no other process can bind the port meanwhile. If one has the port
     before, at one of the addresses or at all, `serve` ends with fault 107. With silent connections at each address, which come again when
     they are closed, a client at each is answered within ten seconds, also if `serve` may have 64 open files. If the machine has no `[::1]`,
-    or the program is kept from IPv6, the office is served at 127.0.0.1; a machine without [::1] has the last one alone.
-    """
+    or the program is kept from IPv6, the office is served at 127.0.0.1; a machine without [::1] has the last one alone."""
     needs("strace")
     open_many_files()
     table = Table("What is tried", "Seconds")
@@ -148,8 +146,7 @@ def try_hostile_codes(seed=7):
 
     First 6,000 wrong codes come as fast as possible, under the numbers of all forty tellers in turn. The next one gets 429, also under a
     number that the file has no line for, and all tellers are let in. When the minute is over, a wrong code gets 401 again. At last a
-    thousand requests without a code come, with bodies of 200,000 bytes, more than a socket holds: each is read whole, and gets 401.
-    """
+    thousand requests without a code come, with bodies of 200,000 bytes, more than a socket holds: each is read whole, and gets 401."""
     chance, sends, said = random.Random(seed), request("/clerks/4/batches/14/keying", body="x" * BODY), Counter()
     codes = {clerk: "-".join("".join(chance.choices(LETTERS, k=4)) for _ in range(3)) for clerk in TELLERS} | CODES
     with temporary_folder() as folder, evening_office(folder, codes).serve("--codes", "codes.txt").wait() as serving:
@@ -192,8 +189,7 @@ def try_behind_nginx(*, seconds=180):
 
     Only ports, certificate and network are changed. Each teller has an address of their own, and asks twice a second. For three minutes (or
     --seconds N) an outsider at another address of the same network guesses ten codes a second, under all forty numbers in turn. At least 99
-    of 100 requests of tellers get 200, and each wrong code 401, or 503 of nginx. Then the right code from another network gets 403.
-    """
+    of 100 requests of tellers get 200, and each wrong code 401, or 503 of nginx. Then the right code from another network gets 403."""
     needs("nginx", "openssl")
     codes = {clerk: f"kf7m-2wxt-h{clerk:02}n" for clerk in TELLERS}
 

@@ -151,8 +151,7 @@ def try_hostile_files(room, seed=7):
     - *Other accounts*, if the tool runs as root. An order doesn't read a log that belongs to another account than DB, but root's, and any
       if others may write to DB. `serve` refuses another account's codes, and root's makes no socket for orders next to another's DB.
 
-    Not an error: the log of another database, put next to the file of an office, is taken for the office's own, and the office is lost.
-    """
+    Not an error: the log of another database, put next to the file of an office, is taken for the office's own, and the office is lost."""
     columns, chance = ["opens", "101", "102", "103", "105", "106"], random.Random(seed)
     before = offices(room)
     town = (before[END].folder / TOWN).read_bytes()
@@ -191,8 +190,7 @@ def kind(printed):
 class Pair:
     """Two orders at an office, and each outcome that is right: what they print, the rows, what that is, and what is given again then.
 
-    They may print and leave what they do one after the other. An `init` that is first may turn the other away, which is given again.
-    """
+    They may print and leave what they do one after the other. An `init` that is first may turn the other away, which is given again."""
 
     def __init__(self, folder, office, *orders):
         self.folder, self.office, self.orders, self.outcomes = folder, office, orders, []
@@ -313,8 +311,7 @@ def try_shared_files(room, runs=100, seed=7):
       open: they have the rows before it, or those after it if it was answered, and the other office's file isn't changed.
     - *No room.* An order that makes a file finds no room for an office in it. By `strace` it stops after one of its calls on the file, and
       another order opens that file. If that was answered, the file holds what it printed; else nothing is left, and `init` works there.
-    - *Rights.* By `strace`: DB, its log, a copy and the socket are made for their owner alone, and are their owner's alone then.
-    """
+    - *Rights.* By `strace`: DB, its log, a copy and the socket are made for their owner alone, and are their owner's alone then."""
     needs("strace")
     chance = random.Random(seed)
     before = offices(room)
@@ -452,8 +449,7 @@ def try_waiting_orders(room):
     """Gives orders while their file is held, served, or about to be, and prints how long they took.
 
     An order that finds its file held tries again for ten seconds. It reads its own files before it connects to `serve`, which waits less
-    for a silent connection than the pipe of the table takes. Each line of the table says what must happen.
-    """
+    for a silent connection than the pipe of the table takes. Each line of the table says what must happen."""
     open_many_files()
     waits = Waits(room)
     for play in (waits.held, waits.while_serve_comes_and_goes, waits.slow_and_long, waits.terminal):

@@ -189,8 +189,7 @@ def try_journalled(evenings=200, seed=7):
 
     Names and ids look like words of a script. Refused orders, and ids that were given to something else, come between. `journal` has a line
     for each receipt, and each is accepted by `replay`. All tables of both offices have the same rows, and both have the same journal. That
-    of one evening in ten is also sent twice, which makes the same tables, cut, and shuffled: each makes an office with a journal.
-    """
+    of one evening in ten is also sent twice, which makes the same tables, cut, and shuffled: each makes an office with a journal."""
     print_evenings("What the evenings had", evenings, seed, counted)
 
 NEW, COUNTS = "mended.db", ("advance", "lot", "declare")
@@ -304,7 +303,6 @@ def try_mended(evenings=400, seed=7):
     The other office is made without `mend`: the journal's lines without those that are left out, with others in the place of some, and
     without the stages, lots and declarations of a ward of which an order was left out, replaced or refused before. All tables of both have
     the same rows, and the office that was given stays as it was. A line is printed for each order that is gone or replaced, with the reason
-    for which `replay` refuses it, in the journal's sequence; then how `wards` differs; then the three numbers.
-    """
+    for which `replay` refuses it, in the journal's sequence; then how `wards` differs; then the three numbers."""
     print_evenings("What was mended", evenings, seed, lambda evening, _: sum(
         (mended(evening.chance, evening.office, turn) for turn in range(5)), collections.Counter()), "mended ")

@@ -94,8 +94,7 @@ def try_lan():
     """Sets nginx up by count-office-lan in a clean Debian root, and keys through it from another machine.
 
     The machines are network namespaces: the office's, with the package of release/ and these sources' script in that root; a client's, with
-    a teller's address, and one of a network that isn't let in. Needs root, mmdebstrap, iproute2 and curl, and a mirror of Debian.
-    """
+    a teller's address, and one of a network that isn't let in. Needs root, mmdebstrap, iproute2 and curl, and a mirror of Debian."""
     needs("mmdebstrap", "ip", "curl", "chroot")
     with temporary_folder() as folder, network():
         debian = Debian(folder)
@@ -153,8 +152,7 @@ def try_completions(root=Path("/")):
     """Tries what bash, zsh and fish offer after `count-office`, in a root folder where the package and the three shells are installed.
 
     bash and zsh are asked at a terminal, as by a person: a line is typed, and the tab and return keys pressed; a function in the program's
-    place prints the words that it gets. fish is asked by its own `complete -C`. Needs root, and Debian's bsdutils for `script`.
-    """
+    place prints the words that it gets. fish is asked by its own `complete -C`. Needs root, and Debian's bsdutils for `script`."""
     needs("script")
     with temporary_folder(dir=root / "tmp", prefix="completed here ") as folder:
         for name in ("town.db", "clerk4.csv", "ballots.txt"):

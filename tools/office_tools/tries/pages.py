@@ -233,8 +233,7 @@ def try_console_evening(pictures: Path = None):
     - A verdict is put right in a new office, which has the rows that the typed order makes. The office stays as it is. In another evening
       the office goes over to the new one. Officer and teller continue there; a draft and a keying without a reply are kept.
     - While nothing changes, the console requests nothing but the list of wards, and never what isn't in docs/formats/console-api.md. If the
-      office's file is gone, it says so. The browser reports nothing but what failed on purpose. Nothing is wider than the window.
-    """
+      office's file is gone, it says so. The browser reports nothing but what failed on purpose. Nothing is wider than the window."""
     people = Officer, lambda evening: Teller(evening, clerk=9)
     with played(pictures, *people, office=lambda folder: Office(folder).begin(PUT_RIGHT)) as [officer, teller]:
         going_over(officer, teller)
@@ -267,8 +266,7 @@ def numbered(count):
 def names(officer, screen):
     """Shows names that look like markup, change the direction of writing or have 120 bytes: as names, and within the window.
 
-    There are thirty candidates for fifteen seats. The screen shows each phase, and in its charts the rows of the sheet.
-    """
+    There are thirty candidates for fifteen seats. The screen shows each phase, and in its charts the rows of the sheet."""
     name, chance = HOSTILE[0] + HOSTILE[1], random.Random(3)
     nominated = HOSTILE + [f"{number} {'Featherstonehaugh-Marjoribanks ' * 4}"[:120].strip() for number in range(9, 31)]
     ranked = [sorted(chance.sample(range(30), 20), key=lambda place: place + chance.randrange(30)) for _ in range(300)]
@@ -364,8 +362,7 @@ def try_console_hostile(pictures: Path = None, *, only: str = ""):
     - *Refused*: a script of batches stops halfway; the rest goes to those whose turn it is. A file is too large. One signs out, and is out.
     - *Large*: 99 wards and 9,999 batches. Each section is drawn within a second, with at most 300 rows at once.
 
-    --only PLAY plays one of names, refused and large. Pictures, at 1280, 800 and 400 pixels and of the screen at 1920, go into PICTURES.
-    """
+    --only PLAY plays one of names, refused and large. Pictures, at 1280, 800 and 400 pixels and of the screen at 1920, go into PICTURES."""
     words = ["--codes", "codes.txt", "--public", "--title", "Election to the council of " + HOSTILE[4]]
     for play in [globals()[only]] if only else [names, refused, large]:
         with played(pictures, Officer, Screen, words=words) as [officer, screen]:
@@ -414,8 +411,7 @@ def try_foreign_pages(*, codes=False):
 
     The office keeps none of their keyings, and the pages read nothing. A request that is typed, and a page of the origin that `serve` was
     given by `--origin`, which keys and reads through a proxy, are answered. With --codes the office asks for codes, and the browser is
-    logged in as the clerk whose batches they are: the pages still read nothing, and the office keeps nothing of theirs.
-    """
+    logged in as the clerk whose batches they are: the pages still read nothing, and the office keeps nothing of theirs."""
     orders, words = ward_orders(*((batch, 1, CLERK, 9) for batch in BATCHES)), ["--codes", "codes.txt"] if codes else []
     with played(None, Stranger, office=lambda folder: Office(folder).begin(orders), words=words) as [browser]:
         evening, own, front = browser.evening, browser.evening.line.office, browser.evening.line.port
@@ -446,8 +442,7 @@ def try_page_picture(file=ROOT / "docs/page-7.png"):
     """Makes docs/page-7.png, the picture in README of the page of a ward, from a real office.
 
     It plays the ward of docs/formats/sheets.md, and compares its stage sheet with the one there. Chromium draws the page of that ward, 1120
-    pixels wide; the picture ends below the stages. FILE is another file in its place.
-    """
+    pixels wide; the picture ends below the stages. FILE is another file in its place."""
     with temporary_folder() as folder, Browser(["--hide-scrollbars"]) as browser:
         office = Office(folder).begin([*ward_orders((12, len(PAPERS), 4, 9)), *keyed(12, PAPERS), *COUNTED])
         page = (ROOT / "docs/formats/sheets.md").read_text(encoding="utf-8")
