@@ -44,12 +44,13 @@ class Ballots:
     """A ballots file, read line by line as docs/formats/ballots.md says."""
 
     def __init__(self, content):
-        self.take, self.told, self.withdrawn, self.papers, self.texts = self.take_size, {}, set(), collections.Counter(), []
+        self.take, self.highest, self.texts = self.take_size, 0, []
+        self.told, self.withdrawn, self.papers = {}, set(), collections.Counter()
         place, lines = 0, content.removeprefix(b"\xef\xbb\xbf").decode("utf-8", "surrogateescape").split("\n")
         try:
             for place, line in enumerate(lines, 1):
                 self.take_line(line)
-            require(self.take == self.take_nothing, "the name of the ward is missing")
+            require(len(self.texts) > self.highest, "the name of the ward is missing")
         except (Unreadable, UnicodeEncodeError) as error:
             raise Unreadable(f"line {place}: {error}", place) from error
         *names, self.ward_name = self.texts
