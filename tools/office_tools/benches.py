@@ -51,7 +51,8 @@ def bench_cost(room, *papers: int):
     An office has a ward of PAPERS papers, by default 1000 10000 100000, which come from a fixed generator; it has 10 candidates and 4
     seats, and two clerks keyed it alike, in batches of 500. Next to it the small election of tools/try is played, and each of its orders is
     timed on a copy of the file: the shortest of five runs counts. Then the large ward is counted. The last line is the highest peak of
-    memory, which is that of `journal`. Take the machine for half an hour."""
+    memory, which is that of `journal`. Take the machine for half an hour.
+    """
     sizes = sorted(papers) or (1000, 10000, 100000)
     columns = [measured(room / str(count), count) for count in sizes]
     table = Table("Order, alone; while it is served", *(f"{count:,} papers" for count in sizes))
@@ -112,7 +113,8 @@ def bench_serving(room, rounds=5, *, program: list = ()):
     Each program that --program A --program B names serves a few times, in turns, or the one alone that is set: the table has the middle of
     its turns, and what part that is of the first one's. Next to 300 silent connections one clerk keys, and then 19 at once, all as fast as
     they are answered. Reads are requests for a clerk's work, as `ab` counts. Memory is that of `serve` after all this. ROUNDS is how many
-    seconds `ab` asks, and a third of the batches that each clerk keys."""
+    seconds `ab` asks, and a third of the batches that each clerk keys.
+    """
     needs("ab")
     found = {path: [] for path in program or [program_of()]}
     for turn in range(TURNS):
@@ -158,7 +160,8 @@ def bench_ballots(room, lines=1000000, lists=73000, *, other=""):
 
     The papers come from a fixed generator: as many as LINES, of LISTS different lists of 12 candidates. They are counted in each form
     that is read. --other names another program, which gets the path of the BLT file alone, and must print the same sheet. It needs GNU's
-    `time`."""
+    `time`.
+    """
     needs("time")
     table, texts = Table(f"{lines:,} papers, {lists:,} lists", "file, MB", "seconds", "memory, MB"), set()
     for what, content, words in record_files(*cast(lines, lists, random.Random(7))):
@@ -177,7 +180,8 @@ RECORDED = 1.5
 def bench_second(room, rounds=20):
     """Times keyings of an office that is served with a second record, and without: the middle of five turns, which takes at most 1.5 times.
 
-    One clerk keys ROUNDS batches of five papers over HTTP, one after the other. Both files are in one folder, on one disk."""
+    One clerk keys ROUNDS batches of five papers over HTTP, one after the other. Both files are in one folder, on one disk.
+    """
     found = {(): [], ("--second", "town.script"): []}
     for turn in range(TURNS):
         for words, times in found.items():

@@ -3,7 +3,7 @@ import collections, contextlib, itertools, os, random, re, sys
 
 from office_tools.election import Ward, damaged, judged, sealed_office
 from office_tools.office import Table, about, checker, timed, wrong_if
-from office_tools.recount import BLANKS, MOST, Ballots, Count, Unreadable, blt, counts, number, require, written
+from office_tools.recount import BLANKS, MOST, Ballots, Count, Unreadable, blt, counts, number_in, require, written
 
 # Characters that could steer a terminal: a question mark is shown for each.
 STEERS = re.compile("[\0-\x09\x0b-\x1f\x7f-\x9f\u061c\u200e\u200f\u202a-\u202e\u2066-\u2069]")
@@ -18,42 +18,38 @@ def compare_counted(content, words, count, wanted, lots=None):
     lots = count.ballots.lots if lots is None else lots
     line, added = b"0", [word for stage, drawn in lots.items() for word in ("--lot", f"{stage}:{drawn}")]
     if count.waits:
-        tied = ", ".join(f"{c} {count.ballots.names[c]}" for c in count.waits[1])
+        tied = ", ".join(f"{number} {count.ballots.names[number]}" for number in count.waits[1])
         line = STEERS.sub("?", f"lot needed at stage {count.waits[0]} among {tied}").encode() + b"\n1"
     for option, text in wanted.items():
         status, out, err = checker(*words, *option.split(), *added, input=content)
         compare(f"count without an office {option}", out, text)
         compare("its line about a lot, and its status", err + b"%d" % status, line)
 
-def check_refused(content, words, refused):
-    status, out, err = checker(*words, input=content)
-    wrong_if(status != 2 or out or not err.startswith(refused), f"{refused} is wanted: status {status}, {err}, {out[:200]}")
-
 def play(ward, folder):
     """Plays a ward to its declaration, and compares all that the program prints on the way. Returns its count."""
-    office, (bundles, rejected) = sealed_office(folder, ward), ward.judged()
+    number, office, (bundles, rejected) = ward.number, sealed_office(folder, ward), ward.judged()
 
     def told(*words):
         return office.do(*words).encode("utf-8", "surrogateescape")
-    first = told("ballots", ward.number)
+    first = told("ballots", number)
     while True:
-        count = Count(Ballots(ballots := told("ballots", ward.number)))
+        count = Count(Ballots(ballots := told("ballots", number)))
         papers = [(bundle.papers, bundle.preferences) for bundle in sorted(count.ballots.bundles)]
         compare("ballots, sorted", written([count.ballots.rejected, *papers]), written([rejected, *bundles]))
         wrong_if(count.lots, f"ballots: no stage takes these lots: {count.lots}")
         stage, tied = count.waits or (0, [])
         last = f"lot needed at stage {stage} among {', '.join(map(str, tied))}" if tied else "count finished"
-        compare("count", told("count", ward.number, "--id", f"count-to-{stage}").splitlines()[-1], last.encode())
-        compare("sheet", told("sheet", ward.number), count.sheet())
+        compare("count", told("count", number, "--id", f"count-to-{stage}").splitlines()[-1], last.encode())
+        compare("sheet", told("sheet", number), count.sheet())
         if not tied:
-            told("declare", ward.number, "--id", "d")
-            compare("result", told("result", ward.number), count.declaration())
-        texts = {"": count.sheet(), "--declaration": b"" if tied else count.declaration(), "--table": told("table", ward.number),
-                 "--ballots": ballots, "--page --title Spring": told("page", ward.number, "--title", "Spring")}
+            told("declare", number, "--id", "d")
+            compare("result", told("result", number), count.declaration())
+        texts = {"": count.sheet(), "--declaration": b"" if tied else count.declaration(), "--table": told("table", number),
+                 "--ballots": ballots, "--page --title Spring": told("page", number, "--title", "Spring")}
         compare_counted(first, ["--count", "-"], count, texts)
         if not tied:
             return count
-        told("lot", ward.number, stage, ward.chance.choice(tied), "--id", f"l{stage}")
+        told("lot", number, stage, ward.chance.choice(tied), "--id", f"l{stage}")
 
 def try_recount(room, ballots="", *, wards=0, seed=1):
     """Counts the ballots of a file anew, apart from the program; or compares made-up wards that the program counts with its own count.
@@ -64,7 +60,8 @@ def try_recount(room, ballots="", *, wards=0, seed=1):
 
     With --wards N wards are made up and played to their declarations. At each lot and at the end `ballots` must print the papers that were
     made up, and `sheet` the recount's sheet, byte for byte; a lot is asked for just where the recount stops, among the same candidates. The
-    program that needs no office counts the first ballots with the same lots, and must print the office's own texts."""
+    program that needs no office counts the first ballots with the same lots, and must print the office's own texts.
+    """
     if wards:
         totals = collections.Counter()
         for place in range(1, wards + 1):
@@ -80,7 +77,7 @@ def try_recount(room, ballots="", *, wards=0, seed=1):
     sys.stdout.flush()
     if count.waits:
         print(f"a lot is needed at stage {count.waits[0]} among {', '.join(map(str, count.waits[1]))}", file=sys.stderr)
-    wrong_if(count.lots, "no stage takes " + ", ".join(f"the lot at stage {stage}: {c}" for stage, c in count.lots.items()))
+    wrong_if(count.lots, "no stage takes " + ", ".join(f"the lot at stage {stage}: {number}" for stage, number in count.lots.items()))
 
 NAMES = ["Ann", "Bob", 'B. "Bob" \\ Brün', "Cy # 3", "דנה", "<b>Eve</b>", "-1", "Fay=2", "0", "E, jr.", "\x1b[2J", "\x9b2J", "\u202eevE"]
 # Comments of ours, in forms that are read and in others, and such as begin otherwise; N is a number.
@@ -181,6 +178,10 @@ def cases(chance):
         same = max((os.path.commonprefix([text, other]) for other in (sheet, declaration)), key=len)
         differs = b"line %d differs" % (same.count(b"\n") + 1)
         yield "damaged sheets", ballots, text, [1], differs
+
+def check_refused(content, words, refused):
+    status, out, err = checker(*words, input=content)
+    wrong_if(status != 2 or out or not err.startswith(refused), f"{refused} is wanted: status {status}, {err}, {out[:200]}")
 
 def compare_read(content):
     """Compares what the program makes of a ballots file with what is read and counted here. Returns what that is."""
@@ -304,7 +305,7 @@ class Records(Ballots):
 
     def take_papers(self, line):
         papers, comma, line = line.partition(",") if self.is_counted else ("1", ",", line)
-        require(comma and 0 < number(papers, MOST), "no number of papers")
+        require(comma and 0 < number_in(papers, MOST), "no number of papers")
         preferences = self.ranked(line) if self.ranks else self.marked(line)
         if isinstance(preferences, tuple):
             self.papers[preferences] += int(papers)
