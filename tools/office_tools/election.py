@@ -200,9 +200,12 @@ def orders_to_seal(office, ward, batches):
     while papers:
         batch, size, (first, second) = next(batches), chance.randint(1, 500), chance.sample(range(1, 1000), 2)
         keyed, papers = papers[:size], papers[size:]
-        office.write(f"{batch}.csv", keying([",".join(marks) if verdict is None else "D" for marks, verdict in keyed], ward.names))
+        texts = [",".join(marks) if verdict is None else "D" for marks, verdict in keyed]
+        office.write(f"{batch}.csv", keying(texts, ward.names))
         orders.append(f"batch {batch} {number} {len(keyed)} {first} {second} --id b{batch}")
-        orders += [f"import-keying {clerk} {batch} 1 {batch}.csv --id k{batch}" for clerk in (first, second)]
+        imports = [f"import-keying {clerk} {batch} 1 {batch}.csv --id k{batch}" for clerk in (first, second)]
+        # Every other batch is keyed by its second clerk in the words of an order.
+        orders += [imports[0], f"key {second} {batch} 1 {' '.join(texts)} --id k{batch}" if batch % 2 else imports[1]]
         for place, (marks, verdict) in enumerate(keyed, 1):
             word = f"reject:{verdict}" if verdict else f"accept:{','.join(marks)}"
             orders += [f"judge {batch} {place} {word} --id v{batch}-{place}"] * (verdict is not None)

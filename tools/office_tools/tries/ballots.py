@@ -93,9 +93,10 @@ def try_recount(room, ballots="", *, wards=0, seed=1):
     Rejected 1: ..` no paper was rejected. A paper is read up to the first rank that several share who stand. It prints the stage sheet, and
     stops if a lot is needed that the file doesn't have. Status 1: the file can't be read, or has a lot that isn't needed.
 
-    With --wards N wards are made up and played to their declarations. At each lot and at the end `ballots` must print the papers that were
-    made up, and `sheet` the recount's sheet, byte for byte; a lot is asked for just where the recount stops, among the same candidates. The
-    program that needs no office counts the first ballots with the same lots, and must print the office's own texts.
+    With --wards N wards are made up, 99 to an office that is served. Scripts have two clerks key them, from files and by orders, seal, count
+    and declare them. Once sealed `ballots` must print the papers that were made up, and at the end the same with the lots; at each lot and at the end
+    the sheet must be the recount's, byte for byte; a lot is asked for just where the recount stops, among the same candidates. The program
+    that needs no office counts the first ballots with the same lots, and must print the office's own texts.
     """
     if wards:
         totals = collections.Counter()

@@ -245,6 +245,24 @@ class Crowd:
         expect("what everyone gets again, and leaves", (again, set(rows_of(here))), (self.answered, self.after))
         return found
 
+def failed_alone(folder):
+    """Fails each call on the record of an order that is performed alone. Returns how many were failed, and after how many it was done."""
+    office, trace, done = Office(folder / "office").begin(ward_orders((1, PAPERS, 1, 9))), folder / "trace", 0
+
+    def ordered(*changes):
+        here = office.copied(folder / "here")
+        here.write(RECORD, here.do("journal").splitlines())
+        words = ["ward", 50, 2, "Quay", "--id", "w", "--second", RECORD]
+        return here.run(*words, under=strace(trace, here.folder.resolve(), [RECORD], *changes)), here.rows(), here.run("second", RECORD)
+    before, (_, after, _), calls = office.rows(), ordered(), CALL.findall(trace.read_text(encoding="utf-8"))
+    for number, call in enumerate(calls):
+        printed, rows, second = ordered(f"{call}:error=EIO:when={calls[:number + 1].count(call)}")
+        is_told = re.fullmatch(f"(.*\n)?{UNRECORDED}(.*\n)?|file fault 8 at record 0: read failed\n", printed.err)
+        is_compared = SAME in second.out or (rows == after and MORE_HERE in second.err)
+        wrong_if(printed[:2] != (3, "") or not is_told or rows not in (before, after) or not is_compared, f"{call}: {printed}, {second}")
+        done += rows == after
+    return len(calls), done
+
 @contextlib.contextmanager
 def full_disk(path, size):
     """Has a small disk at a path during a `with`. A write past its end is cut, and the next one fails."""
@@ -284,7 +302,8 @@ def try_second_record(room, runs=100, seed=7, *, step=1):
     Then each call on FILE fails once, by `strace`; STEP tries one in STEP. If FILE can't be begun, nothing is served, and it is removed. If
     it fails later, the same holds as after a kill, and more: nothing is acknowledged from then on, although the calls don't fail any more.
     Each clerk and order gets fault 112, `serve` prints why, and pages can be read. With a new FILE everyone gets the answer. Given by root,
-    it also has FILE on a disk of 4 KB that becomes full, which cuts a line.
+    it also has FILE on a disk of 4 KB that becomes full, which cuts a line. Last fails each call on FILE of an order that is performed alone:
+    it prints fault 112 or file fault 8, and is done or not; if it is done, FILE may lack it.
     """
     needs("strace")
     chance, crowd = random.Random(seed), Crowd(room, "--second", RECORD)
@@ -310,4 +329,6 @@ def try_second_record(room, runs=100, seed=7, *, step=1):
         # The journal is so long that the disk is full after some of the requests.
         crowd = Crowd(room / "full", *crowd.words, more=[f"ward {n} 1 {'x' * 80} --id p{n}" for n in range(80, 88)])
         row("a disk that becomes full", [crowd.unrecorded(size="4k") for _ in range(0, runs, 10)])
-    print(f"\nEach of the {len(begins)} calls with which FILE begins was failed too.")
+    table = Table("Calls on the file that fail", "number", "the order is done, without a reply")
+    table.row("of `serve`, before it serves anybody", len(begins), "")
+    table.row("of an order that is performed alone", *failed_alone(room / "alone"))
