@@ -212,8 +212,8 @@ def bench_second(room, rounds=20, papers=100000):
                 times.append(1000 / keyed(serving, [requests[1]])[0])
     alone, recorded = (sorted(times)[TURNS // 2] for times in found.values())
     Table("A keying of five papers", "without a second record", "with one").row("takes", f"{alone:.1f} ms", f"{recorded:.1f} ms")
-    wrong_if(recorded > RECORDED * alone, f"with a second record a keying takes more than {RECORDED} times as long")
     recovery(room, papers)
+    wrong_if(recorded > RECORDED * alone, f"with a second record a keying takes more than {RECORDED} times as long")
 
 SIZES, RATES, RECOMMENDED, MOST = (25, 50, 75, 100), (0.003, 0.005, 0.01, 0.02), (50, 0.01), 2.6
 
