@@ -197,11 +197,11 @@ def recovery(room, count):
     wrong_if(min(run[1] for run in replays) > RECOVERED * min(run[1] for run in journals), f"`replay` takes more than {RECOVERED} times as long")
 
 def bench_second(room, rounds=20, papers=100000):
-    """Times keyings of an office that is served with a second record, and without: the middle of five turns, which takes at most 1.5 times.
+    """Times keyings of an office that is served with a second record, and without; and how a new office is made from a large one's record.
 
-    One clerk keys ROUNDS batches of five papers over HTTP, one after the other. Both files are in one folder, on one disk. Then the journal
-    of an office of so many PAPERS is printed, and replayed in a new office, which takes at most three times the processor time of that. It
-    needs GNU's `time`.
+    One clerk keys ROUNDS batches of five papers over HTTP, one after the other; both files are in one folder, on one disk. The middle of
+    five turns with a record takes at most 1.5 times as long as without. Then the journal of an office of so many PAPERS is printed, and
+    replayed in a new office, which takes at most three times the processor time of that. It needs GNU's `time`.
     """
     needs("time")
     found = {(): [], ("--second", "town.script"): []}
