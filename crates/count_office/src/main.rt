@@ -43,8 +43,8 @@ mod order_files;
 mod file_lock;
 mod moved_note;
 mod notices;
-mod path_note;
 mod order_run;
+mod path_note;
 mod path_state;
 // an order that is sent to the program that serves the database
 mod order_client;

@@ -1,4 +1,4 @@
-//! Where the second record of an office is, when its last line was written, and whether it is on the disk of the office.
+//! The place of an office's second record: its path, when its last line was written, and whether it is on the disk of the office.
 //!
 //! How much room is left on its disk isn't known: no library that the program may use has a call for that.
 
@@ -16,11 +16,7 @@ fn are_on_one_disk(rt: &HostRuntime, one: &str, other: &str) -> bool {
 }
 
 /// Returns the line that warns that the second record of the office in a database is on the office's own disk; an empty text if it isn't.
-pub fn disk_warning(
-    rt: &HostRuntime,
-    database: &str,
-    record: &str,
-) -> Result<String, AllocError> {
+pub fn disk_warning(rt: &HostRuntime, database: &str, record: &str) -> Result<String, AllocError> {
     let alloc = rt.alloc();
     if !are_on_one_disk(rt, database, record) {
         return Ok(String::new(alloc));

@@ -79,8 +79,8 @@ abbrev pub asks_for_record : List Text → Bool
 asks_for_record (db ∷ word ∷ []) = bytes_eq word (codes "record")
 asks_for_record other = false
 
--- What the words of an order for the served file ask for: a job, a copy, the journal, a new office from it, a comparison with a second record, or where that is. Or why it isn't carried out: the words aren't an order;
--- or the file is gone (and isn't known to be whole); or the office has a second record, which failed.
+-- What the words of an order for the served file ask for: a job, a copy, the journal, a new office from it, a comparison with a second record, or where the office's own
+-- is. Or why it isn't carried out: the words aren't an order; or the file is gone (and isn't known to be whole); or the office has a second record, which failed.
 abbrev pub AsksSo : Option Bool → Bool → List Text → ServedOrder → Type 0
 AsksSo whole recorded words (asked.Do job) = MeansOrder words (order.Perform (task.InOffice job))
 AsksSo whole recorded words (asked.Copy path) = MeansOrder words (order.Copy path)

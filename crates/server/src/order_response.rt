@@ -14,7 +14,8 @@ ghost use Rattle.desk.specs.Pages.{IsErrorTold, Shows, Tells, failed, outputs_of
 ghost use Rattle.server.specs.Destinations.{EndsWhereAsked, destination_at, destination_entry, folder_typed_in, is_bare_name};
 ghost use Rattle.server.specs.RecordChanges.{change_of};
 ghost use Rattle.server.specs.Settings.{settings_by};
-ghost use Rattle.server.specs.ServedOrders.{AgreesWithRecord, AsksSo, IsOrderOutcome, FollowsOrder, IsRecordText, IsRecordTold, IsWholeMessage, IsCopyTold, IsMessage, IsResponseToOrder, folder_of, closed_office_page};
+ghost use Rattle.server.specs.ServedOrders.{IsRecordText, IsRecordTold};
+ghost use Rattle.server.specs.ServedOrders.{AgreesWithRecord, AsksSo, IsOrderOutcome, FollowsOrder, IsWholeMessage, IsCopyTold, IsMessage, IsResponseToOrder, folder_of, closed_office_page};
 
 use crate::frame_sink::FrameSink;
 use crate::order_arrival::LENGTH;
@@ -223,6 +224,8 @@ fn do_open<A: ServedFile, S: Alter, R: Recorder, O: Sink, E: Sink>(
         (λ cut page. WhenOpenAt (state S.Store) office.old office.new
         (λ s. IsOrderOutcome (change_of R.found R.failed recorder.old recorder.new) (state S.Store office.old.held) office.new.closed (state S.Store office.new.held) (folder_of
         (message_part_entries order.now.attached.files.now)) s order.now.asked.now cut page)) }
+    ensures recorded { order.now.asked.now ≡ ServedOrder.Record → (let outputs = outputs_of O.taken O.failed E.taken E.failed in
+        Tells (outputs out.old err.old) (outputs out.new err.new) result (λ _ page. IsRecordTold (A.described order.now.served_file.now) (R.failed recorder.old) page)) }
     ensures ended { EndsWhereAsked (A.ended order.now.served_file.now) (IsErrorTold E.taken E.failed err.old err.new (failed Failure.CopyFailed).err 3 result)
         (folder_typed_in order.now.attached) order.now.asked.now result }
     ensures same { R.records recorder.new ≡ R.records recorder.old }
@@ -267,6 +270,8 @@ pub fn do_asked<A: ServedFile, S: Alter, R: Recorder, O: Sink, E: Sink>(
         × (office.old.closed ≡ true → page ≡ closed_office_page order.now.asked.now)) }
     ensures closed { office.old.closed ≡ true → office.new ≡ office.old }
     ensures closed_same { office.old.closed ≡ true → recorder.new ≡ recorder.old }
+    ensures recorded { office.old.closed ≡ false → order.now.asked.now ≡ ServedOrder.Record → (let outputs = outputs_of O.taken O.failed E.taken E.failed in
+        Tells (outputs out.old err.old) (outputs out.new err.new) result (λ _ page. IsRecordTold (A.described order.now.served_file.now) (R.failed recorder.old) page)) }
     ensures ended { office.old.closed ≡ false
         → EndsWhereAsked (A.ended order.now.served_file.now) (IsErrorTold E.taken E.failed err.old err.new (failed Failure.CopyFailed).err 3 result)
         (folder_typed_in order.now.attached) order.now.asked.now result }
