@@ -36,6 +36,9 @@ returns-in-Record-clause-did g c =
       is = λ clean is_open s at. rw c.in-Record.is (any_described _ _ _ told.is, record { is_open = is_open; at = at }, refl);
     }
 
+pub returns-in-Record-clause-recorded : goal.returns-in-Record-clause-recorded
+returns-in-Record-clause-recorded g c = λ asks. c.tell_record.ensures
+
 pub returns-in-Copy-clause-did : goal.returns-in-Copy-clause-did
 returns-in-Copy-clause-did g c =
     let told = c.copy_for_order.ensures.told in
