@@ -6,7 +6,7 @@
 ghost use Rattle.std.specs.Prelude.{None, ⊤};
 
 use crate::codes_file::write_new;
-use crate::moved_note::flush_folder;
+use crate::path_note::flush_folder;
 use desk::DurableSink;
 use std::fs::{self, File, OpenOptions};
 use std::io::{self, ErrorKind, Read, Seek, SeekFrom, Write};
