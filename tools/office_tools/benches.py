@@ -1,9 +1,8 @@
-"""What the program costs, and how often papers are keyed."""
+"""What the program costs."""
 import collections, contextlib, json, os, random, resource, select
 
 from office_tools.election import COPYING, ELECTION, END, READS, REPLAY, SCRIPTED, Order, keying, marks_of, ward_orders
 from office_tools.office import HERE, Office, Table, needs, program as program_of, ran, request, side_by_side, status, timed, wrong_if
-from office_tools.players import keys_of
 from office_tools.recount import blt, written
 
 CANDIDATES, SEATS, BATCH, RUNS = 10, 4, 500, 5
@@ -52,7 +51,8 @@ def bench_cost(room, *papers: int):
     An office has a ward of PAPERS papers, by default 1000 10000 100000, which come from a fixed generator; it has 10 candidates and 4
     seats, and two clerks keyed it alike, in batches of 500. Next to it the small election of tools/try is played, and each of its orders is
     timed on a copy of the file: the shortest of five runs counts. Then the large ward is counted. The last line is the highest peak of
-    memory, which is that of `journal`. Take the machine for half an hour."""
+    memory, which is that of `journal`. Take the machine for half an hour.
+    """
     sizes = sorted(papers) or (1000, 10000, 100000)
     columns = [measured(room / str(count), count) for count in sizes]
     table = Table("Order, alone; while it is served", *(f"{count:,} papers" for count in sizes))
@@ -113,7 +113,8 @@ def bench_serving(room, rounds=5, *, program: list = ()):
     Each program that --program A --program B names serves a few times, in turns, or the one alone that is set: the table has the middle of
     its turns, and what part that is of the first one's. Next to 300 silent connections one clerk keys, and then 19 at once, all as fast as
     they are answered. Reads are requests for a clerk's work, as `ab` counts. Memory is that of `serve` after all this. ROUNDS is how many
-    seconds `ab` asks, and a third of the batches that each clerk keys."""
+    seconds `ab` asks, and a third of the batches that each clerk keys.
+    """
     needs("ab")
     found = {path: [] for path in program or [program_of()]}
     for turn in range(TURNS):
@@ -159,7 +160,8 @@ def bench_ballots(room, lines=1000000, lists=73000, *, other=""):
 
     The papers come from a fixed generator: as many as LINES, of LISTS different lists of 12 candidates. They are counted in each form
     that is read. --other names another program, which gets the path of the BLT file alone, and must print the same sheet. It needs GNU's
-    `time`."""
+    `time`.
+    """
     needs("time")
     table, texts = Table(f"{lines:,} papers, {lists:,} lists", "file, MB", "seconds", "memory, MB"), set()
     for what, content, words in record_files(*cast(lines, lists, random.Random(7))):
@@ -178,7 +180,8 @@ RECORDED = 1.5
 def bench_second(room, rounds=20):
     """Times keyings of an office that is served with a second record, and without: the middle of five turns, which takes at most 1.5 times.
 
-    One clerk keys ROUNDS batches of five papers over HTTP, one after the other. Both files are in one folder, on one disk."""
+    One clerk keys ROUNDS batches of five papers over HTTP, one after the other. Both files are in one folder, on one disk.
+    """
     found = {(): [], ("--second", "town.script"): []}
     for turn in range(TURNS):
         for words, times in found.items():
@@ -188,49 +191,3 @@ def bench_second(room, rounds=20):
     alone, recorded = (sorted(times)[TURNS // 2] for times in found.values())
     Table("A keying of five papers", "without a second record", "with one").row("takes", f"{alone:.1f} ms", f"{recorded:.1f} ms")
     wrong_if(recorded > RECORDED * alone, f"with a second record a keying takes more than {RECORDED} times as long")
-
-SIZES, RATES, RECOMMENDED, MOST = (25, 50, 75, 100), (0.003, 0.005, 0.01, 0.02), (50, 0.01), 2.6
-
-def keyed_anew(rate, size):
-    """Returns the keyings' time that a batch takes on average: after two clerks a third one keys, and then all three in each new round."""
-    clean = (1 - rate) ** size
-    agreed = 3 * clean ** 2 - 2 * clean ** 3
-    return 2 + (1 - clean ** 2) + 3 * (1 - agreed) / agreed
-
-def gone_through(rate, size, finds, takes):
-    """Returns the same if clerks go through their own keyings of a batch that differs, and a third one keys if it still does."""
-    # What is found is keyed again, with new slips. A keying without a slip stays so.
-    clean = [(1 - rate * (1 - finds + finds * rate) ** readings) ** size for readings in range(1000)]
-    # The third clerk's keying was read once less than the two others.
-    differ = [1 - first ** 2 - 2 * first * (1 - first) * third for first, third in zip(clean[1:], clean)]
-    wrong_if(differ[-1] > 1e-6, "a reading finds too little: after 1,000 rounds a batch still differs")
-    return 2 + 2 * takes * (1 - clean[0] ** 2) + (1 - clean[1] ** 2) + 3 * takes * sum(differ)
-
-def voted(size, columns, chance):
-    """Returns marks as voters write them: most have a few numbers in order, some are doubtful, empty, or odd."""
-    papers = []
-    for _ in range(size):
-        count = chance.choice([1, 2, 3, 3, 4, columns])
-        fields = chance.sample([*map(str, range(1, count + 1))] + [""] * (columns - count), columns)
-        papers.append(chance.choice(["D", "," * (columns - 1), ",12" + "," * (columns - 2)] + 30 * [",".join(fields)]))
-    return papers
-
-def bench_rounds(*, finds=0.9, takes=1 / 3):
-    """Computes how many keys a paper takes, and how often each is keyed until its batch is taken.
-
-    It needs no program. A slip is a paper that is keyed wrongly; no two slips are alike, so two keyings are equal if neither has one. A
-    batch that differs is keyed again, with a third clerk at once; or its two clerks go through their own keyings, and the third clerk keys
-    only if they still differ. A reading finds a part of the slips (FINDS), and takes a part of a keying's time (TAKES); what is found is
-    keyed again. At slips of 1% in batches of 50 it may take at most 2.6 keyings' time a paper. 2.0 is the least that two clerks can take.
-    """
-    table = Table("Slips", "papers in a batch", "keyed anew", "gone through", "batches that differ at first")
-    for rate, size in ((rate, size) for rate in RATES for size in SIZES):
-        read = gone_through(rate, size, finds, takes)
-        table.row(f"{rate:.1%}", size, f"{keyed_anew(rate, size):.1f}", f"{read:.2f}", f"{1 - (1 - rate) ** (2 * size):.0%}")
-        wrong_if((size, rate) == RECOMMENDED and read > MOST, f"batches of {size} take {read:.2f} keyings' time a paper, more than {MOST}")
-    papers, table = voted(50, 5, random.Random(11)), Table("50 papers of 5 candidates", "keys", "a paper", "at three keys a second")
-    # In a spreadsheet Tab moves on, and Enter ends the row.
-    plain, numbers = sum(len(text.rstrip(",")) + 1 for text in papers), sum(len(str(number)) + 1 for number, _ in enumerate(papers, 1))
-    for what, count in (("the page", sum(map(len, map(keys_of, papers)))), ("a spreadsheet, the papers' numbers typed", plain + numbers),
-                        ("a spreadsheet, the numbers filled in before", plain)):
-        table.row(what, count, f"{count / len(papers):.1f}", f"{count / 3:.0f} s")

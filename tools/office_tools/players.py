@@ -218,19 +218,12 @@ class Teller(Player):
     def shown(self, part):
         return self.value(f"document.getElementById('{part}').textContent")
 
-LETTERS = {"E": "Elected", "e": "Elected", "x": "Excluded", "-": ""}
-# What a row of the chart shows, as a line of the sheet has it.
-ROWS = """[...document.querySelectorAll('#bars li')].map((it) => [it.querySelector('.number'), it.querySelector('.votes'),
-    it.querySelector('.standing'), it.querySelector('.name')].map((each) => each.textContent))"""
 # The elements that are wider or taller than their places.
 CUT = """[...document.querySelectorAll(':root, #which, #title, #view, #view > *, .name, .state, .standing, .votes, .change')]
     .filter((it) => it.scrollWidth > it.clientWidth + 1
         || it.className === 'name' && it.firstChild.getBoundingClientRect().height > it.clientHeight
         || !/state|standing|votes|change/.test(it.className) && it.scrollHeight > it.clientHeight + 1)
     .map((it) => `${it.tagName} ${it.id || it.className}: ${it.textContent.slice(0, 60)}`)"""
-
-def as_shown(text):
-    return re.sub("[\u202e\u2066]", "", text).replace("\x85", "\ufffd")
 
 class Screen(Player):
     """A screen in the hall, which stays where it is until `look` changes it."""
@@ -254,15 +247,6 @@ class Screen(Player):
         wrong_if(cut := self.value(CUT), f"ward {ward}, {words}: cut off: {cut and cut[:5]}")
         if picture:
             self.pictured(picture)
-
-    def compare(self, ward, part):
-        """Checks that the chart has the rows of the sheet at this stage, without the characters that steer: votes as they are printed."""
-        stages = re.split(r"^Stage \d+: .*\n", as_shown(self.evening.office.do("sheet", ward)), flags=re.M)
-        wanted = [[line[:2].strip(), line[3:16].strip(), LETTERS[line[17]], line[19:]] for line in stages[part].split("\n")[:-3]]
-        # The screen also says at which stage, and at the end who isn't elected.
-        own = re.compile(r" stage \d+$|^Not elected$")
-        found = [[number, votes, own.sub("", standing), name] for number, votes, standing, name in self.value(ROWS)]
-        wrong_if(found != wanted, f"ward {ward}, stage {part}: the screen shows {found}, the sheet has {wanted}")
 
 class Evening:
     """An office and its pages, the proxy through which browsers reach it, and the folder for pictures."""

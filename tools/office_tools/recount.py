@@ -36,7 +36,7 @@ def told_by(comment, is_alone):
     require(not BEGINS_AS_OURS.match(comment), f"a comment that begins as ours do: {comment[:40]!r}")
     return []
 
-def number(word, most):
+def number_in(word, most):
     require(re.fullmatch("[0-9]+", word) and int(word) <= most, f"no number, or too large: {word[:40]!r}")
     return int(word)
 
@@ -44,12 +44,13 @@ class Ballots:
     """A ballots file, read line by line as docs/formats/ballots.md says."""
 
     def __init__(self, content):
-        self.take, self.told, self.withdrawn, self.papers, self.texts = self.take_size, {}, set(), collections.Counter(), []
+        self.take, self.highest, self.texts = self.take_size, 0, []
+        self.told, self.withdrawn, self.papers = {}, set(), collections.Counter()
         place, lines = 0, content.removeprefix(b"\xef\xbb\xbf").decode("utf-8", "surrogateescape").split("\n")
         try:
             for place, line in enumerate(lines, 1):
                 self.take_line(line)
-            require(self.take == self.take_nothing, "the name of the ward is missing")
+            require(len(self.texts) > self.highest, "the name of the ward is missing")
         except (Unreadable, UnicodeEncodeError) as error:
             raise Unreadable(f"line {place}: {error}", place) from error
         *names, self.ward_name = self.texts
@@ -76,12 +77,12 @@ class Ballots:
         return words
 
     def candidate(self, word):
-        require(number(word, self.highest) > 0, "no candidate")
+        require(number_in(word, self.highest) > 0, "no candidate")
         return int(word)
 
     def take_size(self, line):
         highest, seats = self.words(line, 2)
-        self.highest, self.seats, self.take = number(highest, 30), number(seats, 15), self.take_withdrawn
+        self.highest, self.seats, self.take = number_in(highest, 30), number_in(seats, 15), self.take_withdrawn
         require(self.seats > 0, "no seats")
 
     def take_withdrawn(self, line):
@@ -98,7 +99,7 @@ class Ballots:
         if words == ["0"]:
             self.take = self.take_name
             return
-        papers, ranks = number(words[0], MOST), [[self.candidate(c) for c in word.split("=")] for word in words[1:-1]]
+        papers, ranks = number_in(words[0], MOST), [[self.candidate(c) for c in word.split("=")] for word in words[1:-1]]
         read = itertools.takewhile(lambda rank: len([c for c in rank if c not in self.withdrawn]) < 2, ranks)
         named = [c for rank in read for c in rank]
         preferences = tuple(c for c in named if c not in self.withdrawn)

@@ -30,7 +30,7 @@ class Function:
 
     def __init__(self, path, source, found):
         blanks, told, self.name, body = found.groups()
-        self.path, self.start, self.end, self.body = path, found.start(3), found.end(), body or ""
+        self.path, self.start, self.end, self.body = path, found.start(2), found.end(), body or ""
         # The last block that begins before it is its own, unless it is in none.
         block, kind = BLOCK.findall(found.string, 0, found.start())[-1] if blanks else ("", "")
         self.owners, self.in_trait_impl = owners_of(block), kind == "impl" and " for " in block

@@ -3,7 +3,7 @@ import collections, contextlib, itertools, os, random, re, sys
 
 from office_tools.election import Ward, damaged, judged, sealed_office
 from office_tools.office import Table, about, checker, timed, wrong_if
-from office_tools.recount import BLANKS, MOST, Ballots, Count, Unreadable, blt, counts, require, written
+from office_tools.recount import BLANKS, MOST, Ballots, Count, Unreadable, blt, counts, number_in, require, written
 
 # Characters that could steer a terminal: a question mark is shown for each.
 STEERS = re.compile("[\0-\x09\x0b-\x1f\x7f-\x9f\u061c\u200e\u200f\u202a-\u202e\u2066-\u2069]")
@@ -60,7 +60,8 @@ def try_recount(room, ballots="", *, wards=0, seed=1):
 
     With --wards N wards are made up and played to their declarations. At each lot and at the end `ballots` must print the papers that were
     made up, and `sheet` the recount's sheet, byte for byte; a lot is asked for just where the recount stops, among the same candidates. The
-    program that needs no office counts the first ballots with the same lots, and must print the office's own texts."""
+    program that needs no office counts the first ballots with the same lots, and must print the office's own texts.
+    """
     if wards:
         totals = collections.Counter()
         for place in range(1, wards + 1):
@@ -178,6 +179,10 @@ def cases(chance):
         differs = b"line %d differs" % (same.count(b"\n") + 1)
         yield "damaged sheets", ballots, text, [1], differs
 
+def check_refused(content, words, refused):
+    status, out, err = checker(*words, input=content)
+    wrong_if(status != 2 or out or not err.startswith(refused), f"{refused} is wanted: status {status}, {err}, {out[:200]}")
+
 def compare_read(content):
     """Compares what the program makes of a ballots file with what is read and counted here. Returns what that is."""
     refused = b"error: no more candidates than seats"
@@ -190,8 +195,7 @@ def compare_read(content):
         refused = b"error: a lot is recorded for stage " if is_among else b"error: the lot for stage %d " % count.waits[0]
     except Unreadable as error:
         refused = b"error: line %d of the ballots: " % error.line if error.line else refused
-    status, out, err = checker("--count", "-", input=content)
-    wrong_if(status != 2 or out or not err.startswith(refused), f"{refused} is wanted: status {status}, {err}, {out[:200]}")
+    check_refused(content, ["--count", "-"], refused)
     return "refused"
 
 def checked(folder, what, ballots, text, right, pattern):
@@ -284,60 +288,58 @@ def columns_in(line, candidates):
         require(is_one, "not the next rank, or a column without a name, or not of a candidate")
     return names != fields, len(names) if candidates else None, candidates or names
 
-def paper_in(line, columns):
-    """Returns how many papers a line is of, and their preferences or the code by which they are rejected."""
-    is_counted, ranks, names = columns
-    papers, comma, line = line.partition(",") if is_counted else ("1", ",", line)
-    require(comma and re.fullmatch("[0-9]+", papers) and 1 <= int(papers) <= MOST, "no number of papers")
-    fields = line.split(",") if ranks is None else fields_in(line)
-    require(names and len(fields) == (ranks or len(names)), "another number of fields")
-    if ranks is None:
-        require(all(re.fullmatch("([1-9][0-9]?)?", mark) for mark in fields), "other fields than ranks")
-        return int(papers), judged(range(1, len(names) + 1), fields)
-    found = []
-    for name in filter(None, fields):
-        chosen = [c for c, known in enumerate(names, 1) if known == name or (re.fullmatch("[0-9]+", name) and int(name) == c)]
-        require(len(chosen) == 1 and chosen[0] not in found, "no candidate, or several, or one twice")
-        found += chosen
-    # A paper is read up to the first rank that is empty.
-    return int(papers), tuple(found[:(fields + [""]).index("")]) or 1
+class Records(Ballots):
+    """Cast-vote records, read line by line as docs/formats/records.md says."""
 
-def read(content, seats, candidates):
-    """Returns the lines of the BLT file that records are, or the number of the first line that isn't understood."""
-    columns, bundles, place = None, collections.Counter(), 0
-    for place, line in enumerate(content.decode("utf-8", "surrogateescape").removeprefix("\ufeff").split("\n"), 1):
-        try:
-            if columns is None and line.strip(BLANKS):
-                columns = columns_in(line.removesuffix("\r"), candidates)
-            elif line.strip(BLANKS):
-                papers, preferences = paper_in(line.removesuffix("\r"), columns)
-                bundles[preferences] += papers
-        except (Unreadable, UnicodeEncodeError):
-            return place
-        if sum(papers for named, papers in bundles.items() if isinstance(named, tuple)) > MOST:
-            return place
-    if columns is None:
-        return place
-    rejected = [bundles.pop(code, 0) for code in range(1, 6)]
-    return blt(seats, [(papers, named) for named, papers in sorted(bundles.items())], columns[2], rejected, WARD)
+    def __init__(self, content, seats, candidates):
+        self.seats, self.candidates = seats, candidates
+        super().__init__(content)
+
+    def take_line(self, line):
+        if line.strip(BLANKS):
+            self.take(line.removesuffix("\r"))
+
+    def take_size(self, line):
+        self.is_counted, self.ranks, names = columns_in(line, self.candidates)
+        self.highest, self.texts, self.take, self.told["rejected", 0] = len(names), [*names, WARD], self.take_papers, [0] * 5
+
+    def take_papers(self, line):
+        papers, comma, line = line.partition(",") if self.is_counted else ("1", ",", line)
+        require(comma and 0 < number_in(papers, MOST), "no number of papers")
+        preferences = self.ranked(line) if self.ranks else self.marked(line)
+        if isinstance(preferences, tuple):
+            self.papers[preferences] += int(papers)
+        else:
+            self.told["rejected", 0][preferences - 1] += int(papers)
+        require(self.papers.total() <= MOST, "too many papers")
+
+    def marked(self, line):
+        """Returns a paper's preferences, of a mark for each candidate, or the code by which it is rejected."""
+        marks = line.split(",")
+        require(len(marks) == self.highest and all(re.fullmatch("([1-9][0-9]?)?", mark) for mark in marks), "other fields than ranks")
+        return judged(range(1, self.highest + 1), marks)
+
+    def ranked(self, line):
+        """Returns the same of a candidate for each rank, up to the first rank that is empty."""
+        fields, found = fields_in(line), []
+        require(self.highest and len(fields) == self.ranks, "another number of fields")
+        for name in filter(None, fields):
+            chosen = [c for c, known in enumerate(self.texts[:-1], 1) if known == name or (re.fullmatch("[0-9]+", name) and int(name) == c)]
+            require(len(chosen) == 1 and chosen[0] not in found, "no candidate, or several, or one twice")
+            found += chosen
+        return tuple(found[:(fields + [""]).index("")]) or 1
 
 def compared(content, seats, candidates, chance):
     """Compares what the program makes of a file with what is read here, lot by lot. Returns what that is."""
-    lines = read(content, seats, candidates)
     words = ["--count", "-", "--seats", str(seats), "--name", WARD, *(word for name in candidates for word in ("--candidate", name))]
-    if isinstance(lines, int):
-        status, out, err = checker(*words, input=content)
-        is_wrong = status != 2 or out or not err.startswith(b"error: line %d of the ballots: " % lines)
-        wrong_if(is_wrong, f"line {lines} isn't understood: status {status}, {err}, {out[:200]}")
-        return "refused"
     try:
-        for count in counts(lines, chance.choice):
+        for count in counts(lines := Records(content, seats, candidates).lines(), chance.choice):
             texts = {"": count.sheet()} | ({} if count.waits else {"--ballots": written(lines)})
             compare_counted(content, words, count, texts)
-    except Unreadable:
-        wrong_if(checker(*words, input=content)[0] != 2, "nobody has to be chosen, or there are too many papers")
-        return "no contest"
-    return "counted"
+        return "counted"
+    except Unreadable as error:
+        check_refused(content, words, b"error: line %d of the ballots: " % error.line if error.line else b"error: ")
+        return "refused" if error.line else "no contest"
 
 def try_hostile_records(wards=1000, seed=1):
     """Gives the program that counts ballots without an office cast-vote records of made-up wards, and files that are no such records.

@@ -4,7 +4,7 @@ from pathlib import Path
 
 from office_tools.election import CODES, HOSTILE, TITLE, keyed, marks_of, ward_orders
 from office_tools.office import HERE, ROOT, TOWN, Office, Proxy, Table, Wrong, temporary_folder, waited, wrong_if
-from office_tools.players import SECTIONS, Browser, Officer, Player, Screen, Teller, as_shown, keys_of, played
+from office_tools.players import SECTIONS, Browser, Officer, Player, Screen, Teller, keys_of, played
 
 NAMES = ["ward,candidate,name", "7,2,Bob", "7,3,Cy", "7,4,Dee", "7,5,Gil", '8,1,"Eve, jr"', "8,2,Fay"]
 HEAD = {batch: {clerk: f"paper {batch}/{clerk},1,2,3,4" for clerk in (4, 5, 9)} for batch in (12, 13)}
@@ -61,17 +61,6 @@ def going_over(officer, teller):
     wrong_if(office.rows() != before, "the office before a switch has changed after it")
 
 PUT_RIGHT = [*ward_orders((12, 2, 4, 9), (13, 2, 4, 9), (14, 1, 4, 9)), *keyed(12, ["D", "1,2,"]), "judge 12 1 reject:4 --id v2"]
-
-def putting_right(officer):
-    """Puts a verdict right in a new office, and compares its report and its rows with those of the typed order."""
-    before = (office := officer.evening.office).rows()
-    put_right(officer, "13 6", "accept:,,1,", "29-putting-right")
-    report = officer.pictured("30-report").value("document.querySelector('#mending pre').textContent")
-    report = re.sub(r": by \S+$", ": by v3", report, flags=re.M)
-    wanted = office.do("mend", "typed.db", "--with", "judge 13 6 accept:,,1, --id v3")
-    wrong_if(report != wanted, f"the console shows {report!r}, and the order prints {wanted!r}")
-    compare(office.rows("mended.db"), office.rows("typed.db"))
-    wrong_if(office.rows() != before, "an order that was put right in a new office has changed this one")
 
 def nominations(officer):
     officer.click("step none")
@@ -230,8 +219,8 @@ def try_console_evening(pictures: Path = None):
       same stage. A teller keys a batch at the page for that, by keys alone, which asks nothing but what is its clerk's.
     - What was typed is still there after a reload. Enter in a field sends nothing. A teller's file for a round after the first is sent only
       if the officer confirms it. Each file that is downloaded or printed, forms included, is what the order prints.
-    - A verdict is put right in a new office, which has the rows that the typed order makes. The office stays as it is. In another evening
-      the office goes over to the new one. Officer and teller continue there; a draft and a keying without a reply are kept.
+    - In another evening a verdict is put right in a new office, and the office goes over to it, which has the rows that the typed orders
+      make; the old one stays as it is. Officer and teller continue there; a draft and a keying without a reply are kept.
     - While nothing changes, the console requests nothing but the list of wards, and never what isn't in docs/formats/console-api.md. If the
       office's file is gone, it says so. The browser reports nothing but what failed on purpose. Nothing is wider than the window."""
     people = Officer, lambda evening: Teller(evening, clerk=9)
@@ -245,7 +234,6 @@ def try_console_evening(pictures: Path = None):
         lines = [re.sub("[A-Z]{5,}", lambda name: " ".join(marks_in(globals()[name[0]])), line) for line in TYPED]
         typed = Office(officer.evening.folder / "typed").begin([f"{line} --id i{number}" for number, line in enumerate(lines)])
         compare(officer.evening.office.rows(), typed.rows())
-        putting_right(officer)
         file_gone(officer)
         quiet(officer)
 
@@ -266,7 +254,7 @@ def numbered(count):
 def names(officer, screen):
     """Shows names that look like markup, change the direction of writing or have 120 bytes: as names, and within the window.
 
-    There are thirty candidates for fifteen seats. The screen shows each phase, and in its charts the rows of the sheet."""
+    There are thirty candidates for fifteen seats. The screen shows each phase and each stage."""
     name, chance = HOSTILE[0] + HOSTILE[1], random.Random(3)
     nominated = HOSTILE + [f"{number} {'Featherstonehaugh-Marjoribanks ' * 4}"[:120].strip() for number in range(9, 31)]
     ranked = [sorted(chance.sample(range(30), 20), key=lambda place: place + chance.randrange(30)) for _ in range(300)]
@@ -294,8 +282,9 @@ def names(officer, screen):
     officer.pictured("44-names-declared").go("overview").shows("All wards are declared", "steps").pictured("45-names-overview")
     last = screen.look(9, "1 of 1 ward declared").value("lastPart(9)")
     for part in range(1, last):
-        screen.look(9, f"Stage {part} of {last - 1}: ", part=part, picture=f"63-stage-{part}" * (part % 9 == 1)).compare(9, part)
-    elected = [line.strip() for line in as_shown(officer.evening.office.do("result", 9)).split("\n")[2:]]
+        screen.look(9, f"Stage {part} of {last - 1}: ", part=part, picture=f"63-stage-{part}" * (part % 9 == 1))
+    result = re.sub("[\u202e\u2066]", "", officer.evening.office.do("result", 9)).replace("\x85", "\ufffd")
+    elected = [line.strip() for line in result.split("\n")[2:]]
     screen.look(9, "Elected", *elected, part=last, picture="64-declared")
     for page in (officer, screen):
         marked = "document.querySelectorAll('img, main i b, main script, #view script').length || document.title === 'marked'"

@@ -24,7 +24,8 @@ def try_killed(room, runs=100, seed=7):
 
     The file is whole by the stock `sqlite`, with the rows before the order or those after it; if the order had answered, those after it. An
     import or a script may leave some of its records (`some records`): at least those that were answered. The order, repeated, prints what
-    it prints without a kill. At a copy's path there is no office (`rows before it found`), which fault 105 says; or the whole one."""
+    it prints without a kill. At a copy's path there is no office (`rows before it found`), which fault 105 says; or the whole one.
+    """
     def killings(trial):
         chance = random.Random(f"{seed} {trial.number}")
         longest = 1.2 * sorted(timed(trial.order.done, trial.office.copied(trial.folder / "timed"))[1] for _ in range(3))[1]
@@ -131,7 +132,8 @@ class Crowd:
         """Adds ten wards, one after the other, and returns what was answered, by ward. The others must print a fault of the store, and so may
         one whose reply came before the kill.
 
-        With a record, no order begins after the kill: it would be done alone, without the record. The one that the kill meets may be."""
+        With a record, no order begins after the kill: it would be done alone, without the record. The one that the kill meets may be.
+        """
         printed, self.alone = {}, set()
         for ward in itertools.takewhile(lambda _: not (self.words and self.is_over.is_set()), WARDS):
             printed[f"ward {ward}"] = here.run("ward", ward, 2, f"Ward {ward}", "--id", f"w{ward}")
@@ -229,7 +231,8 @@ def try_second_record(room, runs=100, seed=7):
 
     Twenty clerks key, and the office gives ten orders, as in `tools/try killed-serving`. After the kill FILE is replayed in a new office
     (`replay FILE --cut`), as if DB were lost, and DB is opened, as if FILE were. Each has all that was answered, and at most one more; and
-    so does each of them have at most one more than the other, as the order `second` says."""
+    so does each of them have at most one more than the other, as the order `second` says.
+    """
     chance, crowd = random.Random(seed), Crowd(room, "--second", RECORD)
     found = [crowd.recorded(chance) for _ in range(runs)]
     table = Table(f"Twenty clerks at once, and ten orders (seed {seed})", "runs", "answered", "in the record", "in the office", "runs in which these differ")
