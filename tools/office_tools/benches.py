@@ -2,7 +2,7 @@
 import collections, contextlib, json, os, random, resource, select
 
 from office_tools.election import COPYING, ELECTION, END, READS, REPLAY, SCRIPTED, Order, keying, marks_of, ward_orders
-from office_tools.office import HERE, Office, Table, needs, program as program_of, ran, request, side_by_side, status, timed, wrong_if
+from office_tools.office import HERE, TOWN, Office, Table, needs, program as program_of, ran, request, side_by_side, status, timed, wrong_if
 from office_tools.recount import blt, written
 
 CANDIDATES, SEATS, BATCH, RUNS = 10, 4, 500, 5
@@ -29,13 +29,17 @@ def best(office, order, is_served=False):
         found.append(1000 * seconds)
     return min(found)
 
-def measured(folder, count):
-    reads = [*READS, (SCRIPTED[0], REPLAY), (END, COPYING)]
+def keyed_office(folder, count):
     chance, batches = random.Random(7), range(100, 100 + count // BATCH)
-    office = nominated(folder / "town", *((batch, BATCH, 4, 9) for batch in batches))
+    office = nominated(folder, *((batch, BATCH, 4, 9) for batch in batches))
     for batch in batches:
         office.write(f"{batch}.csv", keying(papers(chance, BATCH), range(1, CANDIDATES + 1)))
-    office.replay([f"import-keying {clerk} {batch} 1 {batch}.csv --id k{batch}" for batch in batches for clerk in (4, 9)])
+    office.replay([f"import-keying {clerk} {batch} 1 {batch}.csv --id k{batch}" for batch in batches for clerk in (4, 9)], seconds=600)
+    return office
+
+def measured(folder, count):
+    reads = [*READS, (SCRIPTED[0], REPLAY), (END, COPYING)]
+    office = keyed_office(folder / "town", count)
     found = {"`init`": f"{best(Office(folder / 'empty'), ELECTION[0]):.0f} ms"}
     for number, order in enumerate([*ELECTION[1:], *LARGE], 1):
         for one in (*(read for place, read in reads if place == number), order):
@@ -159,29 +163,46 @@ def bench_ballots(room, lines=1000000, lists=73000, *, other=""):
     """Measures counts of ballots without an office, and prints a table: the least processor time of five runs, and the memory.
 
     The papers come from a fixed generator: as many as LINES, of LISTS different lists of 12 candidates. They are counted in each form
-    that is read. --other names another program, which gets the path of the BLT file alone, and must print the same sheet. It needs GNU's
-    `time`.
+    that is read. --other names another program, which gets the path of each file, with the words that its form needs, and must print
+    the same sheet. It needs GNU's `time`.
     """
     needs("time")
     table, texts = Table(f"{lines:,} papers, {lists:,} lists", "file, MB", "seconds", "memory, MB"), set()
     for what, content, words in record_files(*cast(lines, lists, random.Random(7))):
         (room / "ballots").write_bytes(content)
         calls = {what: [program_of("CHECK_COUNT"), "--count", str(room / "ballots"), *words]}
-        if other and not words:
-            calls[f"{what}, by {os.path.basename(other)}"] = [other, str(room / "ballots")]
+        if other:
+            calls[f"{what}, by {os.path.basename(other)}"] = [other, str(room / "ballots"), *words]
         for who, call in calls.items():
             runs = [costs(*call) for _ in range(RUNS)]
             texts.update(out for out, *_ in runs)
             table.row(who, f"{len(content) / 1e6:.1f}", f"{min(run[1] for run in runs):.2f}", f"{max(run[2] for run in runs):.0f}")
     wrong_if(len(texts) > 1, f"{len(texts)} sheets of the same papers")
 
-RECORDED = 1.5
+RECORDED, RECOVERED = 1.5, 3
 
-def bench_second(room, rounds=20):
-    """Times keyings of an office that is served with a second record, and without: the middle of five turns, which takes at most 1.5 times.
+def recovery(room, count):
+    """Measures `journal`, and how a new office is made from what it prints: the least processor time of five runs."""
+    town, script = keyed_office(room / "large", count), room / "town.script"
+    journals = [costs(program_of(), str(town.folder / TOWN), "journal") for _ in range(RUNS)]
+    script.write_bytes(journals[0][0])
+    news = [Office(room / f"new-{run}").begin().folder / TOWN for run in range(RUNS)]
+    replays = [costs(program_of(), str(new), "replay", str(script)) for new in news]
+    seconds = [costs(program_of(), str(news[0]), "second", str(script)) for _ in range(RUNS)]
+    wrong_if(not seconds[0][0].startswith(f"{script} and this office hold the same".encode()), f"second: {seconds[0][0]}")
+    table = Table(f"{count:,} papers, keyed twice, {script.stat().st_size / 1e6:.1f} MB", "seconds", "memory, MB")
+    for what, runs in (("`journal`", journals), ("`replay` of that in a new office", replays), ("`second`, which compares both", seconds)):
+        table.row(what, f"{min(run[1] for run in runs):.2f}", f"{max(run[2] for run in runs):.0f}")
+    wrong_if(min(run[1] for run in replays) > RECOVERED * min(run[1] for run in journals), f"`replay` takes more than {RECOVERED} times as long")
 
-    One clerk keys ROUNDS batches of five papers over HTTP, one after the other. Both files are in one folder, on one disk.
+def bench_second(room, rounds=20, papers=100000):
+    """Times keyings of an office that is served with a second record, and without; and how a new office is made from a large one's record.
+
+    One clerk keys ROUNDS batches of five papers over HTTP, one after the other; both files are in one folder, on one disk. The middle of
+    five turns with a record takes at most 1.5 times as long as without. Then the journal of an office of so many PAPERS is printed, and
+    replayed in a new office, which takes at most three times the processor time of that. It needs GNU's `time`.
     """
+    needs("time")
     found = {(): [], ("--second", "town.script"): []}
     for turn in range(TURNS):
         for words, times in found.items():
@@ -190,4 +211,5 @@ def bench_second(room, rounds=20):
                 times.append(1000 / keyed(serving, [requests[1]])[0])
     alone, recorded = (sorted(times)[TURNS // 2] for times in found.values())
     Table("A keying of five papers", "without a second record", "with one").row("takes", f"{alone:.1f} ms", f"{recorded:.1f} ms")
+    recovery(room, papers)
     wrong_if(recorded > RECORDED * alone, f"with a second record a keying takes more than {RECORDED} times as long")

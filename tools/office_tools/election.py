@@ -189,25 +189,26 @@ class Ward:
         rejected = [found.pop(code, 0) for code in range(1, 6)]
         return sorted((papers, preferences) for preferences, papers in found.items()), rejected
 
-def sealed_office(folder, ward):
-    """Returns an office with the ward, which one script brings to its seal; an uncontested ward is closed."""
-    office, chance, papers = Office(folder), ward.chance, ward.papers
+def orders_to_seal(office, ward, batches):
+    """Writes the files of a ward, and returns the orders up to its seal, or its close if it is uncontested. BATCHES yields unused numbers."""
+    number, chance, papers = ward.number, ward.chance, ward.papers
     quoted = {candidate: name.replace('"', '""') for candidate, name in ward.names.items()}
-    office.write("names.csv", ["ward,candidate,name"] + [f'{ward.number},{candidate},"{name}"' for candidate, name in quoted.items()])
-    orders = [f"ward --id w -- {ward.number} {ward.seats} {shlex.quote(ward.name)}", "import-candidates names.csv --id c",
-              f"close {ward.number} --id n"]
-    for batch in chance.sample(range(1, 10000), len(papers)):
-        size, (first, second) = chance.randint(1, 500), chance.sample(range(1, 1000), 2)
+    office.write(f"names-{number}.csv", ["ward,candidate,name"] + [f'{number},{candidate},"{name}"' for candidate, name in quoted.items()])
+    orders = [f"ward --id w{number} -- {number} {ward.seats} {shlex.quote(ward.name)}", f"import-candidates names-{number}.csv --id c{number}-",
+              f"close {number} --id n{number}"]
+    while papers:
+        batch, size, (first, second) = next(batches), chance.randint(1, 500), chance.sample(range(1, 1000), 2)
         keyed, papers = papers[:size], papers[size:]
-        office.write(f"{batch}.csv", keying([",".join(marks) if verdict is None else "D" for marks, verdict in keyed], ward.names))
-        orders.append(f"batch {batch} {ward.number} {len(keyed)} {first} {second} --id b{batch}")
-        orders += [f"import-keying {clerk} {batch} 1 {batch}.csv --id k{batch}" for clerk in (first, second)]
+        texts = [",".join(marks) if verdict is None else "D" for marks, verdict in keyed]
+        office.write(f"{batch}.csv", keying(texts, ward.names))
+        orders.append(f"batch {batch} {number} {len(keyed)} {first} {second} --id b{batch}")
+        imports = [f"import-keying {clerk} {batch} 1 {batch}.csv --id k{batch}" for clerk in (first, second)]
+        # Every other batch is keyed by its second clerk in the words of an order.
+        orders += [imports[0], f"key {second} {batch} 1 {' '.join(texts)} --id k{batch}" if batch % 2 else imports[1]]
         for place, (marks, verdict) in enumerate(keyed, 1):
             word = f"reject:{verdict}" if verdict else f"accept:{','.join(marks)}"
             orders += [f"judge {batch} {place} {word} --id v{batch}-{place}"] * (verdict is not None)
-        if not papers:
-            break
-    return office.begin(orders + [f"seal {ward.number} --id s"] * ward.is_contested)
+    return orders + [f"seal {number} --id s{number}"] * ward.is_contested
 
 def noise(chance, length):
     return bytes(chance.getrandbits(8) for _ in range(length))

@@ -1,10 +1,11 @@
 """Ballots, sheets and cast-vote records, of the program and of anyone, compared with a count apart from the program."""
 import collections, contextlib, itertools, os, random, re, sys
 
-from office_tools.election import Ward, damaged, judged, sealed_office
-from office_tools.office import Table, about, checker, timed, wrong_if
+from office_tools.election import Ward, damaged, judged, orders_to_seal
+from office_tools.office import Office, Table, about, checker, expect, request, timed, wrong_if
 from office_tools.recount import BLANKS, MOST, Ballots, Count, Unreadable, blt, counts, number_in, require, written
 
+MOST_WARDS, SCRIPT_SECONDS = 99, 600
 # Characters that could steer a terminal: a question mark is shown for each.
 STEERS = re.compile("[\0-\x09\x0b-\x1f\x7f-\x9f\u061c\u200e\u200f\u202a-\u202e\u2066-\u2069]")
 
@@ -25,31 +26,65 @@ def compare_counted(content, words, count, wanted, lots=None):
         compare(f"count without an office {option}", out, text)
         compare("its line about a lot, and its status", err + b"%d" % status, line)
 
-def play(ward, folder):
-    """Plays a ward to its declaration, and compares all that the program prints on the way. Returns its count."""
-    number, office, (bundles, rejected) = ward.number, sealed_office(folder, ward), ward.judged()
+class Election:
+    """A ward that is sealed, or closed without a poll, and the recount of its ballots, which has one lot more in each round."""
 
-    def told(*words):
-        return office.do(*words).encode("utf-8", "surrogateescape")
-    first = told("ballots", number)
-    while True:
-        count = Count(Ballots(ballots := told("ballots", number)))
-        papers = [(bundle.papers, bundle.preferences) for bundle in sorted(count.ballots.bundles)]
-        compare("ballots, sorted", written([count.ballots.rejected, *papers]), written([rejected, *bundles]))
-        wrong_if(count.lots, f"ballots: no stage takes these lots: {count.lots}")
-        stage, tied = count.waits or (0, [])
+    def __init__(self, ward, ballots):
+        self.ward, self.number, self.first, self.count = ward, ward.number, ballots, None
+        read, (bundles, rejected) = Ballots(ballots), ward.judged()
+        papers = [(bundle.papers, bundle.preferences) for bundle in sorted(read.bundles)]
+        compare("ballots, sorted", written([read.rejected, *papers]), written([rejected, *bundles]))
+        wrong_if(read.lots, f"ballots: no stage takes these lots: {read.lots}")
+        self.lines = ballots.decode("utf-8", "surrogateescape").split("\n")[:-1]
+        self.counts = counts(self.lines, ward.chance.choice)
+
+    def orders(self):
+        """Returns the orders of a round, and the last line that they print: which lot is needed next, or that the count is finished."""
+        before, self.count = self.count, next(self.counts)
+        drawn = [f"lot {self.number} {stage} {self.count.ballots.lots[stage]} --id l{self.number}-{stage}"
+                 for stage in (before.waits[:1] if before else [])]
+        stage, tied = self.count.waits or (0, [])
         last = f"lot needed at stage {stage} among {', '.join(map(str, tied))}" if tied else "count finished"
-        compare("count", told("count", number, "--id", f"count-to-{stage}").splitlines()[-1], last.encode())
-        compare("sheet", told("sheet", number), count.sheet())
-        if not tied:
-            told("declare", number, "--id", "d")
-            compare("result", told("result", number), count.declaration())
-        texts = {"": count.sheet(), "--declaration": b"" if tied else count.declaration(), "--table": told("table", number),
-                 "--ballots": ballots, "--page --title Spring": told("page", number, "--title", "Spring")}
-        compare_counted(first, ["--count", "-"], count, texts)
-        if not tied:
-            return count
-        told("lot", number, stage, ward.chance.choice(tied), "--id", f"l{stage}")
+        return [*drawn, f"count {self.number} --id c{self.number}-{stage}"], last
+
+    def compare_sheet(self, served):
+        compare("sheet", served(f"/wards/{self.number}/sheet"), self.count.sheet())
+        if self.count.waits:
+            compare_counted(self.first, ["--count", "-"], self.count, {"": self.count.sheet()})
+
+    def compare_all(self, served, told):
+        """Compares all texts of the ward, which is declared."""
+        ballots, declaration = written(self.lines), self.count.declaration()
+        compare("result", served(f"/wards/{self.number}/result"), declaration)
+        compare("ballots", told("ballots", self.number), ballots)
+        texts = {"": self.count.sheet(), "--declaration": declaration, "--table": told("table", self.number),
+                 "--ballots": ballots, "--page --title Spring": told("page", self.number, "--title", "Spring")}
+        compare_counted(self.first, ["--count", "-"], self.count, texts)
+
+def play(wards, folder):
+    """Plays wards in one office to their declarations, and compares all that the program prints on the way. Returns their counts."""
+    office, batches = Office(folder), iter(wards[0].chance.sample(range(1, 10000), 9999))
+    office.begin([order for ward in wards for order in orders_to_seal(office, ward, batches)], seconds=SCRIPT_SECONDS)
+    with office.serve().wait() as serving:
+        def told(*words):
+            return office.do(*words).encode("utf-8", "surrogateescape")
+
+        def served(target):
+            return serving.ask(request(target)).partition(b"\r\n\r\n")[2]
+        elections = waiting = [Election(ward, told("ballots", ward.number)) for ward in wards]
+        while waiting:
+            orders, last = zip(*(election.orders() for election in waiting))
+            printed = office.replay(itertools.chain(*orders), seconds=SCRIPT_SECONDS)
+            expect("what `count` prints", re.findall("(?m)^(?:lot needed|count finished).*", printed), [*last])
+            for election in waiting:
+                with about(f"ward {election.number}"):
+                    election.compare_sheet(served)
+            waiting = [election for election in waiting if election.count.waits]
+        office.replay(f"declare {election.number} --id d{election.number}" for election in elections)
+        for election in elections:
+            with about(f"ward {election.number}"):
+                election.compare_all(served, told)
+    return [election.count for election in elections]
 
 def try_recount(room, ballots="", *, wards=0, seed=1):
     """Counts the ballots of a file anew, apart from the program; or compares made-up wards that the program counts with its own count.
@@ -58,17 +93,22 @@ def try_recount(room, ballots="", *, wards=0, seed=1):
     Rejected 1: ..` no paper was rejected. A paper is read up to the first rank that several share who stand. It prints the stage sheet, and
     stops if a lot is needed that the file doesn't have. Status 1: the file can't be read, or has a lot that isn't needed.
 
-    With --wards N wards are made up and played to their declarations. At each lot and at the end `ballots` must print the papers that were
-    made up, and `sheet` the recount's sheet, byte for byte; a lot is asked for just where the recount stops, among the same candidates. The
-    program that needs no office counts the first ballots with the same lots, and must print the office's own texts.
+    With --wards N wards are made up, 99 to an office that is served. Scripts have two clerks key them, from files and by orders, seal, count
+    and declare them. Once sealed `ballots` must print the papers that were made up, and at the end the same with the lots; at each lot and at the end
+    the sheet must be the recount's, byte for byte; a lot is asked for just where the recount stops, among the same candidates. The program
+    that needs no office counts the first ballots with the same lots, and must print the office's own texts.
     """
     if wards:
         totals = collections.Counter()
-        for place in range(1, wards + 1):
-            ward = Ward(random.Random(f"{seed} {place}"))
-            with about(f"seed {seed}, ward {place}"):
-                count = play(ward, room / str(place))
-            totals.update({"contested": ward.is_contested, "stages compared": len(count.stages), "lots drawn": len(count.ballots.lots)})
+        for first in range(0, wards, MOST_WARDS):
+            made = [Ward(random.Random(f"{seed} {place}")) for place in range(first + 1, min(wards, first + MOST_WARDS) + 1)]
+            for number, ward in enumerate(made, 1):
+                ward.number = number
+            with about(f"seed {seed}, {len(made)} wards after {first}"):
+                found = play(made, room / str(first))
+            totals.update({"offices": 1, "contested": sum(ward.is_contested for ward in made), "papers": sum(len(ward.papers) for ward in made),
+                           "stages": sum(len(count.stages) for count in found), "figures": sum(len(one) + 1 for count in found for one in count.figures),
+                           "lots": sum(len(count.ballots.lots) for count in found), "wards with a lot": sum(bool(count.ballots.lots) for count in found)})
         return Table(f"Made-up wards, seed {seed}", wards).rows(totals)
     wrong_if(not ballots, "a file of ballots is needed, or --wards N")
     with about(ballots, OSError), open(ballots, "rb") as file:

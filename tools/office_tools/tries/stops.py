@@ -1,10 +1,11 @@
 """What stops an order or `serve`: a kill, a refusal of memory, a failing disk. Nothing that was answered is lost."""
-import collections, itertools, random, re, shutil, threading, time
+import collections, contextlib, itertools, os, random, re, shutil, threading, time
 from concurrent.futures import ThreadPoolExecutor
 
 from office_tools.election import COPY, COPY_LOG, FILE, election, ward_orders
-from office_tools.office import LOG, SCRIPT, STORE, TOWN, Office, Table, ended, expect, needs, request, side_by_side, timed, wrong_if
-from office_tools.trials import CALL, NOT_WRITTEN, ON_FILES, RESULTS, Trial, trials
+from office_tools.office import (
+    LOG, SCRIPT, STORE, TOWN, Office, Table, about, ended, expect, needs, ran, request, side_by_side, status, timed, wrong_if)
+from office_tools.trials import CALL, NOT_WRITTEN, ON_FILES, RESULTS, Trial, strace, trials
 
 # The election whose orders are killed has 99 valid papers and a doubtful one.
 COPIES = 11
@@ -115,13 +116,16 @@ CLERKS, PAPERS, WARDS = range(1, 21), 2, range(11, 21)
 KEYING = '{"id":"k","round":1,"papers":["1,2,","D"]}'
 RECORD, SAME = "town.script", "town.script and this office hold the same"
 MORE_HERE, MORE_THERE = "this office has one request more than town.script", "town.script has one request more than this office"
+UNRECORDED, NOT_RECORDED = "fault 112: second record\n", b'{"fault":112}'
+RECORD_FAILS = f"{RECORD}: the file of the second record failed; nothing more is accepted until you start again with a new file\n"
 WHOLE = re.compile(rb"HTTP/1\.1 200 OK\r\n.*?Content-Length: (\d+)\r\n.*?\r\n\r\n(.*)", re.DOTALL)
 
 class Crowd:
     """Twenty clerks who key at once, and orders that are handed over meanwhile."""
 
-    def __init__(self, folder, *words):
-        self.office, self.here = Office(folder / "office").begin(ward_orders(*((n, PAPERS, n, 999) for n in CLERKS))), folder / "here"
+    def __init__(self, folder, *words, more=()):
+        begun = [*ward_orders(*((n, PAPERS, n, 999) for n in CLERKS)), *more]
+        self.office, self.here = Office(folder / "office").begin(begun), folder / "here"
         self.words = words
         here = self.office.copied(self.here)
         self.seconds, self.answered = self.served(here)
@@ -138,14 +142,18 @@ class Crowd:
         for ward in itertools.takewhile(lambda _: not (self.words and self.is_over.is_set()), WARDS):
             printed[f"ward {ward}"] = here.run("ward", ward, 2, f"Ward {ward}", "--id", f"w{ward}")
             self.alone |= {f"ward {ward}"} if self.words and self.is_over.is_set() else set()
-        other = [one for ward, one in printed.items() if one not in ((0, f"{ward} added\n", ""), (3, "", STORE), (3, f"{ward} added\n", STORE))]
+        faults = [(3, "", UNRECORDED)] if self.fails else [(3, "", STORE)]
+        other = [one for ward, one in printed.items() if one not in ((0, f"{ward} added\n", ""), *faults, (3, f"{ward} added\n", STORE))]
         wrong_if(other, f"an order for a ward prints {other}")
         return {ward: one for ward, one in printed.items() if one.out and ward not in self.alone}
 
-    def served(self, here, wait=None):
-        """Returns (seconds of clerks and of orders, whose answers) of a `serve` that is killed after some seconds, or at the end."""
-        self.is_over = threading.Event()
-        with here.serve(*self.words).wait() as serving, ThreadPoolExecutor(len(CLERKS) + 2) as pool:
+    def served(self, here, wait=None, fails=False, begun_at=None, **how):
+        """Returns (seconds of clerks and of orders, whose answers) of a `serve` that is killed after some seconds, or at the end.
+
+        If its record fails, nothing is answered from then on but what is read.
+        """
+        self.is_over, self.fails = threading.Event(), fails
+        with (begun_at or here).serve(*self.words, **how).wait() as serving, ThreadPoolExecutor(len(CLERKS) + 2) as pool:
             def key(n):
                 try:
                     return serving.ask(request(f"/clerks/{n}/batches/{n}/keying", body=KEYING))
@@ -154,6 +162,7 @@ class Crowd:
 
             def key_all():
                 found = {f"clerk {n}": (text, WHOLE.fullmatch(text)) for n, text in zip(CLERKS, pool.map(key, CLERKS))}
+                wrong_if(fails and not all(parts or text.endswith(NOT_RECORDED) for text, parts in found.values()), f"clerks get {found}")
                 return {clerk: text for clerk, (text, parts) in found.items() if parts and len(parts[2]) == int(parts[1])}
 
             keyings, orders = pool.submit(timed, key_all), pool.submit(timed, self.order, here)
@@ -162,6 +171,9 @@ class Crowd:
                 self.is_over.set()
                 serving.process.kill()
             (keyed, keying), (ordered, ordering) = keyings.result(), orders.result()
+            if fails:
+                later = key(1).endswith(NOT_RECORDED), status(serving.ask(request("/clerks/1/work"))), serving.kill().err
+                expect("what a clerk gets and reads later, and `serve` prints", later, (True, 200, RECORD_FAILS))
         return (keying, ordering), keyed | ordered
 
     def kept(self, here):
@@ -191,9 +203,8 @@ class Crowd:
         expect("what twenty clerks who key again, and the officer, get and leave", (again, set(rows_of(here))), (self.answered, self.after))
         return answered, kept
 
-    def recorded(self, chance):
+    def recorded(self, here, answered, kept):
         """Returns whose keyings and orders were answered, whose the record keeps, and whose the office keeps."""
-        here, answered, kept = self.stopped(chance)
         again = Office(self.here.with_name("again")).begin()
         shutil.copyfile(here.folder / RECORD, again.folder / RECORD)
         again.do("replay", RECORD, "--cut")
@@ -206,6 +217,61 @@ class Crowd:
         printed = here.run("second", RECORD)
         expect("what the order `second` says", bool(self.alone) or says in printed.out + printed.err, True)
         return answered, found, kept
+
+    def traced(self, here, *changes):
+        """Returns the words that run a program under `strace`, which changes its calls on the record."""
+        return strace(self.here.with_name("trace"), here.folder.resolve(), [RECORD], *changes)
+
+    def unstarted(self, change):
+        """Fails a call with which the record begins: nothing is served, and no file is left."""
+        here = self.office.copied(self.here)
+        printed = ended(here.serve(*self.words, under=self.traced(here, change)).process)
+        is_right = printed.status == 3 and re.fullmatch(f"{UNRECORDED}{RECORD}: it can't be (read and )?written\n", printed.err)
+        wrong_if(not is_right or (here.folder / RECORD).exists(), f"{printed}, and {[*here.folder.iterdir()]}")
+
+    def unrecorded(self, change="", size=""):
+        """Fails a call with which a request is recorded, or has the record on a disk that becomes full. Returns what `recorded` does.
+        Everyone sends theirs again, with a new record."""
+        here = self.office.copied(self.here)
+        if change:
+            _, answered = self.served(here, fails=True, under=self.traced(here, change))
+        else:
+            with full_disk(here.folder / "stick", size) as stick:
+                _, answered = self.served(here, fails=True, begun_at=stick, town=f"../{TOWN}")
+                shutil.copy(stick.folder / RECORD, here.folder)
+        found = self.recorded(here, answered, self.kept(here))
+        (here.folder / RECORD).unlink()
+        _, again = self.served(here)
+        expect("what everyone gets again, and leaves", (again, set(rows_of(here))), (self.answered, self.after))
+        return found
+
+def failed_alone(folder):
+    """Fails each call on the record of an order that is performed alone. Returns how many were failed, and after how many it was done."""
+    office, trace, done = Office(folder / "office").begin(ward_orders((1, PAPERS, 1, 9))), folder / "trace", 0
+
+    def ordered(*changes):
+        here = office.copied(folder / "here")
+        here.write(RECORD, here.do("journal").splitlines())
+        words = ["ward", 50, 2, "Quay", "--id", "w", "--second", RECORD]
+        return here.run(*words, under=strace(trace, here.folder.resolve(), [RECORD], *changes)), here.rows(), here.run("second", RECORD)
+    before, (_, after, _), calls = office.rows(), ordered(), CALL.findall(trace.read_text(encoding="utf-8"))
+    for number, call in enumerate(calls):
+        printed, rows, second = ordered(f"{call}:error=EIO:when={calls[:number + 1].count(call)}")
+        is_told = re.fullmatch(f"(.*\n)?{UNRECORDED}(.*\n)?|file fault 8 at record 0: read failed\n", printed.err)
+        is_compared = SAME in second.out or (rows == after and MORE_HERE in second.err)
+        wrong_if(printed[:2] != (3, "") or not is_told or rows not in (before, after) or not is_compared, f"{call}: {printed}, {second}")
+        done += rows == after
+    return len(calls), done
+
+@contextlib.contextmanager
+def full_disk(path, size):
+    """Has a small disk at a path during a `with`. A write past its end is cut, and the next one fails."""
+    stick = Office(path)
+    expect("mount", ran("mount", "-t", "tmpfs", "-o", f"size={size}", "tmpfs", str(path)).status, 0)
+    try:
+        yield stick
+    finally:
+        ran("umount", str(path))
 
 def rows_of(office):
     return [(table, row) for table, rows in office.rows().items() for row in rows]
@@ -226,15 +292,43 @@ def try_killed_serving(room, runs=200, seed=7):
         answered, kept = ([sum(own.startswith(kind) for own in those) for those in column] for column in zip(*found))
         table.row(what, runs, sum(answered), sum(kept), sum(0 < count < most for count in kept))
 
-def try_second_record(room, runs=100, seed=7):
-    """Kills `serve --second FILE` at random moments while it serves clients, and sees that nothing is lost in FILE, or in the office.
+def try_second_record(room, runs=100, seed=7, *, step=1):
+    """Stops `serve --second FILE` while it serves clients, or fails its calls on FILE, and sees that nothing is lost in FILE, or in the office.
 
-    Twenty clerks key, and the office gives ten orders, as in `tools/try killed-serving`. After the kill FILE is replayed in a new office
-    (`replay FILE --cut`), as if DB were lost, and DB is opened, as if FILE were. Each has all that was answered, and at most one more; and
-    so does each of them have at most one more than the other, as the order `second` says.
+    Twenty clerks key, and the office gives ten orders, as in `tools/try killed-serving`. After a kill at a random moment FILE is replayed in
+    a new office (`replay FILE --cut`), as if DB were lost, and DB is opened, as if FILE were. Each has all that was answered, and at most
+    one more; and so does each of them have at most one more than the other, as the order `second` says.
+
+    Then each call on FILE fails once, by `strace`; STEP tries one in STEP. If FILE can't be begun, nothing is served, and it is removed. If
+    it fails later, the same holds as after a kill, and more: nothing is acknowledged from then on, although the calls don't fail any more.
+    Each clerk and order gets fault 112, `serve` prints why, and pages can be read. With a new FILE everyone gets the answer. Given by root,
+    it also has FILE on a disk of 4 KB that becomes full, which cuts a line. Last fails each call on FILE of an order that is performed alone:
+    it prints fault 112 or file fault 8, and is done or not; if it is done, FILE may lack it.
     """
+    needs("strace")
     chance, crowd = random.Random(seed), Crowd(room, "--second", RECORD)
-    found = [crowd.recorded(chance) for _ in range(runs)]
-    table = Table(f"Twenty clerks at once, and ten orders (seed {seed})", "runs", "answered", "in the record", "in the office", "runs in which these differ")
-    table.row("each clerk keys a batch, and the office adds ten wards", runs, *(sum(map(len, column)) for column in zip(*found)),
-              sum(record != kept for _, record, kept in found))
+    heads = "runs", "answered", "in the record", "in the office", "runs in which these differ"
+    table = Table(f"Twenty clerks at once, and ten orders (seed {seed})", *heads)
+
+    def row(what, found):
+        table.row(what, len(found), *(sum(map(len, column)) for column in zip(*found)), sum(record != kept for _, record, kept in found))
+    row("`serve` is killed", [crowd.recorded(*crowd.stopped(chance)) for _ in range(runs)])
+    here = crowd.office.copied(crowd.here)
+    with here.serve(*crowd.words, under=crowd.traced(here)).wait():
+        begins = CALL.findall(crowd.here.with_name("trace").read_text(encoding="utf-8"))
+    for number, call in enumerate(begins):
+        with about(f"call {number} on a record that begins, {call}"):
+            crowd.unstarted(f"{call}:error=EIO:when={begins[:number + 1].count(call)}")
+    for call, fault in (("write", "ENOSPC"), ("write", "EIO"), ("fdatasync", "EIO")):
+        found, before = [], begins.count(call)
+        for number in range(1, len(crowd.answered) + 1, step):
+            with about(f"{call}, request {number}: {fault}"):
+                found.append(crowd.unrecorded(f"{call}:error={fault}:when={before + number}"))
+        row(f"`{call}` fails once: {fault}", found)
+    if os.geteuid() == 0:
+        # The journal is so long that the disk is full after some of the requests.
+        crowd = Crowd(room / "full", *crowd.words, more=[f"ward {n} 1 {'x' * 80} --id p{n}" for n in range(80, 88)])
+        row("a disk that becomes full", [crowd.unrecorded(size="4k") for _ in range(0, runs, 10)])
+    table = Table("Calls on the file that fail", "number", "the order is done, without a reply")
+    table.row("of `serve`, before it serves anybody", len(begins), "")
+    table.row("of an order that is performed alone", *failed_alone(room / "alone"))
