@@ -69,7 +69,7 @@ IDIOMS = {
 ALLOWED = {"docs/formats/ballots.md": ("a line behind the ward's name", "the line 0 behind the papers"),
            "crates/tables/src/walking.rt": ("visitor",), "crates/tables/specs/Walking.antt": ("visitor",)}
 TABLES, BOOKS = "results.md", {"officer": ["officer/"], "formats": ["formats/"], "engineering": ["engineering/", "DECISIONS"]}
-PLACES = "crates/*/src/**/* crates/*/specs/**/* crates/**/*.edit tools/**/* examples/* release/package/**/* count-office".split()
+PLACES = "crates/*/src/**/* crates/*/specs/**/* crates/**/*.edit tools/**/* examples/**/* release/package/**/* count-office".split()
 SUFFIXES = (".rt", ".antt", ".edit", ".py", ".sh", ".bash", ".fish", ".zsh", ".service", ".js")
 SPOKEN = re.compile(r'^[ \t]*"""((?s:.*?))"""|^(?:new: )?[ \t]*(?:///|//!|//|--|#)( .*|$)|.+', re.M)
 

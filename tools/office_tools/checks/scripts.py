@@ -64,7 +64,7 @@ def check_page():
     served = SERVED.items() if os.environ.get("COUNT_OFFICE") else ()
     return wrong or [f"{crate}: {fault}" for crate, where in served for fault in wrong_served(crate, *where)]
 
-MODULES, PLAYS = Path("/usr/share/nodejs"), ROOT / "tools/office_tools/page_plays.js"
+MODULES, PLAYS = Path("/usr/share/nodejs"), ROOT / "examples/pages"
 # Wards for the screen: number, name, seats, names, papers with their preferences, and rejected papers.
 HARBOUR, TIED = [(4, (1, 2)), (2, (1, 3)), (1, (2,)), (2, (3,))], [(6, (1,)), (4, (2,)), (2, (3, 1)), (1, (3,)), (1, (4, 3, 1)), (1, (5,))]
 WARDS = [
@@ -105,4 +105,4 @@ def check_script(room, file: Path = None):
     pages = {"clerks": clerks, "console": page_of_sources(CONSOLE)[0], "screen": page_of_sources(SCREEN)[0]}
     (room / "counts").write_text(json.dumps(counts), encoding="utf-8")
     how = {"env": os.environ | {"NODE_PATH": str(MODULES)}, "text": True, "check": False}
-    return max(subprocess.run(["node", PLAYS, name, room / "counts"], input=page, **how).returncode for name, page in pages.items())
+    return max(subprocess.run(["node", PLAYS / f"{name}.js", room / "counts"], input=page, **how).returncode for name, page in pages.items())
