@@ -153,5 +153,16 @@ printf '%s\n' ward,candidate,name 7,1,Ann 7,2,Bob 7,3,Cy >"$folder/names.csv"
     server=
     show_note anew.db
     play anew.db wards
+
+    # a name that a file of an office may have; and a record that is taken away while the office is served: nothing more is acknowledged
+    play anew.db serve 8080 --second anew.db-journal
+    serve_recorded anew.db taken.script
+    play anew.db ward 8 1 Quay --id w8
+    mv "$folder/stick/taken.script" "$folder/stick/away.script"
+    play anew.db ward 9 1 Pier --id w9
+    play anew.db ward 9 1 Pier --id w9
+    kill -KILL "$server" && { wait "$server" || true; } 2>/dev/null
+    server=
+    play anew.db second stick/away.script
 } >"$folder/played"
 compare disk-gone
