@@ -13,6 +13,7 @@ use crate::notices::{
 use crate::order_client::{OrderReply, Sent, print_reply, send_order};
 use crate::order_files::{OrderFiles, read_order_and_files};
 use crate::path_state::{PathKind, PathState};
+use crate::record_note::forget_recording;
 use crate::screen::Screen;
 use crate::{
     LockedDatabase, close, dispatch_order, is_busy, order_socket, takes_second, wants_progress,
@@ -57,6 +58,13 @@ fn note_unrecorded(place: LockedDatabase<'_>, order: &Order<'_>) {
     }
 }
 
+/// Removes the note that the office in a locked database is served with a second record, if it was served and that has ended by itself.
+fn forget_if_ended(place: LockedDatabase<'_>, status: u8) {
+    if status == 0 && place.succession.is_open.get() {
+        forget_recording(place.rt, place.found.database());
+    }
+}
+
 /// Opens the locked database at a path, performs an order on it, and closes it. If the order fails, nothing is left that didn't
 /// exist before. Returns an error if another program has the file open; nothing has been printed then.
 ///
@@ -86,6 +94,7 @@ fn open_and_perform<O: Sink, E: Sink>(
             if status != 0 {
                 place.found.remove_created(rt);
             }
+            forget_if_ended(place, status);
             let _ = close(conn);
             Ok(status)
         }
@@ -156,7 +165,7 @@ fn read_order_files(
 }
 
 /// An order that a served office was given, after which the program says where the office's second record is.
-#[derive(Clone, Copy, PartialEq, Eq)]
+#[derive(Clone, Copy)]
 enum RecordRemark {
     AfterCopy,
     AfterSwitch,

@@ -9,7 +9,6 @@ ghost use Rattle.count_office.specs.Records.{has_failed};
 ghost use Rattle.count_office.specs.Serving.{ServesInRecord, ServesWith};
 
 use crate::host::Host;
-use crate::record_note::forget_recording;
 use crate::second_file::SecondFile;
 use crate::second_order::refuse_second;
 use crate::serving::{Serving, serve};
@@ -116,13 +115,6 @@ fn serve_with_record<H: Host, S: Alter, E: Sink>(
     (status, conn)
 }
 
-/// Removes the note that the office in a locked database is served with a second record, if serving has ended by itself.
-fn forget_if_ended(place: LockedDatabase<'_>, status: u8) {
-    if status == 0 && place.succession.is_open.get() {
-        forget_recording(place.rt, place.found.database());
-    }
-}
-
 /// Serves as [`serve`] does, with a second record if the order names its file.
 pub fn serve_in_place<H: Host, S: Alter, E: Sink>(
     place: LockedDatabase<'_>,
@@ -136,12 +128,7 @@ pub fn serve_in_place<H: Host, S: Alter, E: Sink>(
         (stream_of H.Sockets.Stream.held H.Sockets.Stream.taken H.Sockets.Stream.failed) (state S.Store) (H.known host.old) (H.known host.new) conn result.1 }
 {
     match place.second {
-        Some(path) => {
-            let asked = RecordedPlace { place, path };
-            let (status, conn) = serve_with_record(asked, host, serving, conn, err);
-            forget_if_ended(place, status);
-            (status, conn)
-        }
+        Some(path) => serve_with_record(RecordedPlace { place, path }, host, serving, conn, err),
         None => {
             let (status, conn, NoRecord) = serve(
                 place.rt.alloc(),
@@ -151,7 +138,6 @@ pub fn serve_in_place<H: Host, S: Alter, E: Sink>(
                 NoRecord,
                 err,
             );
-            forget_if_ended(place, status);
             (status, conn)
         }
     }

@@ -76,8 +76,10 @@ IsForNone other = ⊥
 
 -- the words, after DB, are only `record`
 abbrev pub asks_for_record : List Text → Bool
+asks_for_record [] = false
+asks_for_record (db ∷ []) = false
 asks_for_record (db ∷ word ∷ []) = bytes_eq word (codes "record")
-asks_for_record other = false
+asks_for_record (db ∷ word ∷ other ∷ words) = false
 
 -- What the words of an order for the served file ask for: a job, a copy, the journal, a new office from it, a comparison with a second record, or where the office's own
 -- is. Or why it isn't carried out: the words aren't an order; or the file is gone (and isn't known to be whole); or the office has a second record, which failed.
