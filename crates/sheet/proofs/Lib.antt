@@ -13,3 +13,5 @@ pub mod Places
 pub mod Ties
 mod WorkedLots
 pub mod TieLaw
+pub mod Appended
+pub mod ResultsBack
