@@ -15,3 +15,4 @@ mod WorkedLots
 pub mod TieLaw
 pub mod Appended
 pub mod ResultsBack
+mod WorkedResults
