@@ -45,7 +45,7 @@ def play(ward, folder):
             told("declare", number, "--id", "d")
             compare("result", told("result", number), count.declaration())
         texts = {"": count.sheet(), "--declaration": b"" if tied else count.declaration(), "--table": told("table", number),
-                 "--ballots": ballots, "--page --title Spring": told("page", number, "--title", "Spring")}
+                 "--results": count.results(), "--ballots": ballots, "--page --title Spring": told("page", number, "--title", "Spring")}
         compare_counted(first, ["--count", "-"], count, texts)
         if not tied:
             return count
@@ -279,7 +279,8 @@ def compare_read(content):
             count = Count(Ballots(written(lines)))
             is_among = not count.waits or count.waits[0] not in count.lots
             if is_among and (count.waits or not count.lots):
-                compare_counted(content, ["--count", "-"], count, {"": count.sheet(), "--ballots": written(lines)}, {})
+                texts = {"": count.sheet(), "--results": count.results(), "--ballots": written(lines)}
+                compare_counted(content, ["--count", "-"], count, texts, {})
                 return "counted"
             refused = b"error: a lot is recorded for stage " if is_among else b"error: the lot for stage %d " % count.waits[0]
     status, out, err = checker("--count", "-", input=content)
@@ -424,7 +425,7 @@ def compared(content, seats, candidates, chance):
         return "refused"
     try:
         for count in counts(lines, chance.choice):
-            texts = {"": count.sheet()} | ({} if count.waits else {"--ballots": written(lines)})
+            texts = {"": count.sheet(), "--results": count.results()} | ({} if count.waits else {"--ballots": written(lines)})
             compare_counted(content, words, count, texts)
     except Unreadable:
         wrong_if(checker(*words, input=content)[0] != 2, "nobody has to be chosen, or there are too many papers")
