@@ -35,3 +35,4 @@ mod ScriptRecordLemmas
 mod SameLemmas
 mod ScriptContinues
 mod RequestLemmas
+pub mod PublishLemmas

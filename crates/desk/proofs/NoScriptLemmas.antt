@@ -68,6 +68,7 @@ allowed_order (order.Copy path) = refl
 allowed_order order.Journal = refl
 allowed_order (order.Second path) = refl
 allowed_order (order.Mend m) = refl
+allowed_order (order.Publish p) = refl
 allowed_order (order.Codes path clerks with_office) = refl
 allowed_order (order.Slips path address) = refl
 allowed_order (order.Serve port connections origin codes public) = refl
