@@ -39,14 +39,17 @@ private_office() {
 
 # Shows which files a folder has, who may read them, and whether they have the digests that the folder lists.
 show() {
-    echo "files of $1: $(ls -x -w 160 "$folder/$1")"
-    echo "rights: $(stat -c %a "$folder/$1" "$folder/$1"/* | sort -u | paste -sd ' ')"
-    (cd "$folder/$1" && sha256sum --check --quiet SHA256SUMS && echo "digests: $(wc -l <SHA256SUMS)")
+    (
+        cd "$folder/$1"
+        echo "files of $1:" *
+        echo "rights: $(stat -c %a . ./* | sort -u | paste -sd ' ')"
+        sha256sum --check --quiet SHA256SUMS && echo "digests: $(wc -l <SHA256SUMS)"
+    )
 }
 
 # Shows what is in the folder of the office.
 list_files() {
-    echo "files: $(ls -x -w 160 "$folder" --ignore=output --ignore=errors --ignore=played)"
+    echo "files: $(ls -m -w 0 "$folder" --ignore=output --ignore=errors --ignore=played)"
 }
 
 {
@@ -89,7 +92,7 @@ list_files() {
     # the ward that is counted, without its ballots; a title; everyone may read the folder, whatever the umask
     office=private_office play town.db publish results --title "Harbour <council>"
     show results
-    echo "titles: $(grep -c "Harbour &lt;council&gt;" "$folder"/results/{index,ward-7,check}.html | paste -sd ' ' | sed "s:$folder/::g")"
+    (cd "$folder/results" && echo "with the title: $(grep -l "Harbour &lt;council&gt;" -- *.html | paste -sd ' ')")
 
     # the texts are those of the orders
     for pair in "sheet ward-7-sheet.txt" "table ward-7-table.csv"; do
