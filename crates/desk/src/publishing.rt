@@ -307,13 +307,15 @@ fn texts_of_wards<'a>(
     Ok(texts)
 }
 
-/// Returns the outcome if the files can't be made.
+/// Returns the outcome if the files can't be made: out of memory, or that the folder isn't written. The pages of an office end as pages
+/// do, and its wards are in order.
 fn unmade(fault: PublishFault) -> LineOutcome
     ensures { IsFailure (page_of result) }
 {
     match fault {
         PublishFault::Memory => LineOutcome::Failed(Fault::Memory),
         PublishFault::NotAPage => LineOutcome::Uncopied(CopyFault::Copy(Fault::Store)),
+        PublishFault::WardOrder => LineOutcome::Uncopied(CopyFault::Copy(Fault::Store)),
     }
 }
 

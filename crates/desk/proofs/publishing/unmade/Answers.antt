@@ -9,3 +9,6 @@ returns-in-Memory c = (Office Memory, refl)
 
 pub returns-in-NotAPage : goal.returns-in-NotAPage
 returns-in-NotAPage c = (CopyFailed, refl)
+
+pub returns-in-WardOrder : goal.returns-in-WardOrder
+returns-in-WardOrder c = (CopyFailed, refl)
