@@ -1,5 +1,6 @@
 -- The ties that a page names as settled by an earlier stage are settled so in the count.
-use Rattle.std.proofs.Common.{◌≡◌, ◌⊎◌, inl, inr, ℕ, ◌-◌, ◌<◌, ◌≤◌, ◌==◌, ◌&&◌, ◌||◌, Bool, true, false, not, cond, nat_eq, nat_le, nat_lt, List, [], ◌∷◌, length, reverse, get_or, slice_get, Option, Some, None}
+use Rattle.std.proofs.Common.{◌≡◌, ◌⊎◌, inl, inr, ℕ, ◌-◌, ◌<◌, ◌≤◌, ◌==◌, ◌&&◌, ◌||◌, Bool, true, false}
+use Rattle.std.proofs.Common.{not, cond, nat_eq, nat_le, nat_lt, List, [], ◌∷◌, length, reverse, get_or, slice_get, Option, Some, None}
 use Rattle.std.proofs.Common.{refl, sym, ap, ap₂, subst, ◌∙◌, arith, true≢false}
 use Rattle.std.specs.Prelude.{option_map, position}
 use Rattle.std.specs.List.{find, list_any, position_or_len}
@@ -67,7 +68,8 @@ settles : (stages : History) (c d : ℕ) (s : Stage) → find (apart c d) stages
 settles [] c d s found = absurd (cc found)
 settles (x ∷ stages) c d s found = by (votes_at x c == votes_at x d) refl (settles stages c d s) found
   where
-    by : (b : Bool) → (votes_at x c == votes_at x d) ≡ b → (find (apart c d) stages ≡ Some s → Settles stages c d s) → cond (not b) (Some x) (find (apart c d) stages) ≡ Some s → Settles (x ∷ stages) c d s
+    by : (b : Bool) → (votes_at x c == votes_at x d) ≡ b → (find (apart c d) stages ≡ Some s → Settles stages c d s) → cond (not b) (Some x) (find (apart c d) stages) ≡ Some s → Settles
+        (x ∷ stages) c d s
     by true same before later =
         let rest = before later in
         let e : votes_at x c ≡ votes_at x d = eqb-true (votes_at x c) (votes_at x d) same in
@@ -198,7 +200,8 @@ surplus_settled contest s before c d tie known top is =
     let more : nat_lt contest.quota (newest_votes stages c) ≡ true = (in-filter c (λ x. nat_lt contest.quota (newest_votes stages x)) (elected_after contest stages) p.1).0 in
     let also : nat_lt contest.quota (newest_votes stages d) ≡ true = ap (nat_lt contest.quota) (sym is.level) ∙ more in
     let elected : is_elected contest stages d ≡ true = reached-elected contest stages d (above-reached contest s before d (ltb-true _ _ also)) in
-    let here : In d group = filter-in d (λ x. nat_lt contest.quota (newest_votes stages x)) (elected_after contest stages) also (filter-in d (is_elected contest stages) contest.candidates elected known) in
+    let here : In d group = filter-in d (λ x. nat_lt contest.quota (newest_votes stages x)) (elected_after contest stages) also
+        (filter-in d (is_elected contest stages) contest.candidates elected known) in
     let figures = settles stages c d is.named.stage is.named.found in
     omega (arith, figures.over (any_false (λ y. is_above stages y c) d group none here), is.named.chosen, is.named.other)
 
@@ -206,7 +209,8 @@ within_reach : (contest : Contest) (s : Stage) (before : History) (c : ℕ) → 
 within_reach contest s before c enough = ap (λ (b : Bool). b || has_reached contest before c) (le-leb contest.quota (votes_at s c) enough)
 
 -- a continuing candidate's equal isn't elected, since the quota is still above both
-equal_unelected : (contest : Contest) (handed : History → Stage → Option ℕ) (s : Stage) (before : History) (c d : ℕ) → IsContest contest → IsRightBy contest handed (s ∷ before) → In d contest.candidates
+equal_unelected : (contest : Contest) (handed : History → Stage → Option ℕ) (s : Stage) (before : History) (c d : ℕ) → IsContest contest → IsRightBy contest handed (s ∷ before) → In d
+    contest.candidates
     → undecided_fill contest (s ∷ before) ≡ false → is_elected contest (s ∷ before) c ≡ false → newest_votes (s ∷ before) c ≡ newest_votes (s ∷ before) d → is_elected contest (s ∷ before) d ≡ false
 equal_unelected contest handed s before c d fair right known unfilled out level = open_elected contest stages d unfilled ∙ by (has_reached contest stages d) refl
   where
@@ -265,6 +269,7 @@ settled_on_a_page contest handed s (t ∷ before) c d tie fair right on known is
           subst (λ a. IsSettled a tie) (sym top.is) more
       | inr bottom ↦
           let same : bottom.candidate ≡ c = some_is (sym (excluded_named _ bottom.candidate) ∙ ap candidate_of (sym bottom.is) ∙ on) in
-          let fewer = exclusion_settled contest handed t before c d tie fair right.0 known unfilled (subst (λ e. In e (lowest stages (continuing_after contest stages))) same bottom.in_group) figures in
+          let fewer = exclusion_settled contest handed t before c d tie fair right.0 known unfilled (subst (λ e. In e (lowest stages (continuing_after contest stages))) same bottom.in_group)
+              figures in
           subst (λ a. IsSettled a tie) (sym bottom.is) (excluded_by _ bottom.candidate tie fewer)
     ]

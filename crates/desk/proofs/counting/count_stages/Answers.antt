@@ -46,7 +46,8 @@ loop-request-preserved g c =
       keeps_connection = connection_then first mid next c.stage_of-outcome.ensures.clean c.loop-request.invariant.keeps_connection c.stage_of-outcome.ensures.keeps_connection;
       clean = λ clean. c.loop-request.invariant.clean (c.stage_of-outcome.ensures.clean clean);
       same = c.stage_of-outcome.ensures.same ∙ c.loop-request.invariant.same;
-      untouched = stays_then g.R.Recorder.failed c.args.recorder.now c.loop-request.recorder c.stage_of-outcome.new.recorder first mid next c.loop-request.invariant.untouched c.stage_of-outcome.ensures.untouched;
+      untouched = stays_then g.R.Recorder.failed c.args.recorder.now c.loop-request.recorder c.stage_of-outcome.new.recorder first mid next c.loop-request.invariant.untouched
+          c.stage_of-outcome.ensures.untouched;
       so_far = record {
         said = below so_far.said (fronted line page);
         shown = rw zero at (whole_more _ _ _ so_far.said (fronted line page) 0 c.tell-status.result so_far.shown
