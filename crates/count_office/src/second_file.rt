@@ -7,6 +7,7 @@ ghost use Rattle.std.specs.Prelude.{None, ⊤};
 
 use crate::codes_file::write_new;
 use crate::moved_note::flush_folder;
+use crate::path_state::{ENDINGS, is_no_file};
 use desk::DurableSink;
 use std::fs::{self, File, OpenOptions};
 use std::io::{self, ErrorKind, Read, Seek, SeekFrom, Write};
@@ -15,6 +16,10 @@ use streams::Broken;
 
 /// The permission bits that let the group and others write to a file.
 const WRITING_BY_OTHERS: u32 = 0o022;
+
+/// More endings of names that belong to an office: of its socket, of a note that is being written, and of a file that other programs
+/// using SQLite create.
+const MORE_ENDINGS: [&str; 3] = ["-serve", "-moved-unfinished", "-shm"];
 
 /// The reason why a file can't be used as a second record.
 #[derive(Clone, Copy, Debug, PartialEq, Eq, Drop)]
@@ -27,6 +32,8 @@ pub enum SecondFault {
     Writable,
     /// The last line of the file was cut by a stop.
     Cut,
+    /// The file has a name that belongs to an office, or that isn't a file's.
+    Reserved,
     /// A new file was to be made, but something has its name already.
     Taken,
     /// A new file was to be made, but it can't be written.
@@ -43,6 +50,7 @@ impl SecondFault {
             SecondFault::Cut => {
                 "its last line was cut by a stop; begin a new file with the order journal"
             }
+            SecondFault::Reserved => "a file of an office may have this name; choose another",
             SecondFault::Taken => "something is there already; name a new file",
             SecondFault::Unwritten => "it can't be written",
         }
@@ -65,6 +73,13 @@ fn fault_in_making(error: &io::Error) -> SecondFault {
     }
 }
 
+/// Returns whether a name is that of something other than a file, or of a file that may belong to an office.
+fn is_reserved(path: &str) -> bool {
+    is_no_file(path)
+        || ENDINGS.iter().any(|ending| path.ends_with(*ending))
+        || MORE_ENDINGS.iter().any(|ending| path.ends_with(*ending))
+}
+
 /// Flushes the name of a file to the disk.
 fn flush_name(rt: &HostRuntime, path: &str) -> io::Result<()> {
     flush_folder(rt, fs::canonicalize(rt, path)?.as_str())
@@ -81,16 +96,28 @@ fn is_cut(file: &mut File) -> io::Result<bool> {
     Ok(byte[0] != b'\n')
 }
 
-/// The file of a second record, opened for appending. Nothing is known about its bytes.
+/// The file of a second record, opened for appending; and the path at which it has to stay, with the device and inode numbers that
+/// identify it. Nothing is known about its bytes.
 #[derive(Drop)]
-pub struct SecondFile {
+pub struct SecondFile<'a> {
+    rt: &'a HostRuntime,
+    path: &'a str,
     file: File,
+    device: u64,
+    inode: u64,
 }
 
-impl SecondFile {
+impl<'a> SecondFile<'a> {
     /// Creates a file that only its owner may read and write, with a text that ends with a newline, flushes it, and opens it. If that
     /// fails, no file is left.
-    pub fn create(rt: &HostRuntime, path: &str, text: &[u8]) -> Result<SecondFile, SecondFault> {
+    pub fn create(
+        rt: &'a HostRuntime,
+        path: &'a str,
+        text: &[u8],
+    ) -> Result<SecondFile<'a>, SecondFault> {
+        if is_reserved(path) {
+            return Err(SecondFault::Reserved);
+        }
         write_new(rt, path, text).map_err(|error| fault_in_making(&error))?;
         let opened = match flush_name(rt, path) {
             Ok(()) => SecondFile::open(rt, path),
@@ -104,7 +131,10 @@ impl SecondFile {
 
     /// Opens an existing file, to which only its owner may write, and whose last line is whole. Doesn't open pipes and devices, because
     /// opening them may block.
-    pub fn open(rt: &HostRuntime, path: &str) -> Result<SecondFile, SecondFault> {
+    pub fn open(rt: &'a HostRuntime, path: &'a str) -> Result<SecondFile<'a>, SecondFault> {
+        if is_reserved(path) {
+            return Err(SecondFault::Reserved);
+        }
         let found = fs::metadata(rt, path).map_err(|error| fault_of(&error))?;
         if !found.is_file() {
             return Err(SecondFault::Unusable);
@@ -118,14 +148,34 @@ impl SecondFile {
             .open(rt, path)
             .map_err(|error| fault_of(&error))?;
         match is_cut(&mut file) {
-            Ok(false) => Ok(SecondFile { file }),
+            Ok(false) => SecondFile::of(rt, path, file).map_err(|error| fault_of(&error)),
             Ok(true) => Err(SecondFault::Cut),
             Err(error) => Err(fault_of(&error)),
         }
     }
+
+    /// Returns a file that was opened at a path.
+    fn of(rt: &'a HostRuntime, path: &'a str, file: File) -> io::Result<SecondFile<'a>> {
+        let found = file.metadata()?;
+        Ok(SecondFile {
+            rt,
+            path,
+            file,
+            device: found.dev(),
+            inode: found.ino(),
+        })
+    }
+
+    /// Returns whether the file is still at its path: it wasn't removed, renamed or replaced, and its disk wasn't taken out.
+    fn is_at_path(&self) -> bool {
+        match fs::metadata(self.rt, self.path) {
+            Ok(found) => found.dev() == self.device && found.ino() == self.inode,
+            Err(_) => false,
+        }
+    }
 }
 
-impl DurableSink for SecondFile {
+impl DurableSink for SecondFile<'_> {
     ghost kept = { λ _. None };
 
     ghost broken = { λ _. ⊤ };
@@ -137,10 +187,11 @@ impl DurableSink for SecondFile {
         }
     }
 
+    // A file without a path still accepts and flushes bytes, but nobody finds it after a loss.
     fn flush(&mut self) -> Result<(), Broken> {
         match self.file.sync_data() {
-            Ok(()) => Ok(()),
-            Err(_) => Err(Broken),
+            Ok(()) if self.is_at_path() => Ok(()),
+            _ => Err(Broken),
         }
     }
 }

@@ -45,12 +45,12 @@ fn tell_apart<E: Sink>(errors: &[u8], status: u8, err: &mut E) -> u8
 
 /// Opens the file of a second record, if it holds the same as the office, which is only read; then nothing is printed. Otherwise prints
 /// how they differ, or why the file can't be used, and returns the status.
-fn open_record<S: Alter, E: Sink>(
-    paths: LocalFolder<'_>,
-    path: &str,
+fn open_record<'a, S: Alter, E: Sink>(
+    paths: LocalFolder<'a>,
+    path: &'a str,
     conn: Connection<S>,
     err: &mut E,
-) -> (Result<SecondFile, u8>, Connection<S>)
+) -> (Result<SecondFile<'a>, u8>, Connection<S>)
     requires { E.failed err.old < 2 ^ 64 - 1 }
     ensures reads { OnlyReads (state S.Store conn) (state S.Store result.1) }
     ensures quiet { OnOk result.0 (err.new ≡ err.old) }

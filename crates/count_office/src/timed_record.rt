@@ -54,12 +54,12 @@ fn comment_now(rt: &HostRuntime, actor: u32) -> Result<String, AllocError> {
 pub struct TimedRecord<'a> {
     rt: &'a HostRuntime,
     path: &'a str,
-    script: ScriptRecord<SecondFile>,
+    script: ScriptRecord<SecondFile<'a>>,
 }
 
 impl<'a> TimedRecord<'a> {
     /// Returns a record that continues the file at a path.
-    pub fn new(rt: &'a HostRuntime, path: &'a str, file: SecondFile) -> TimedRecord<'a>
+    pub fn new(rt: &'a HostRuntime, path: &'a str, file: SecondFile<'a>) -> TimedRecord<'a>
         ensures { has_failed result ≡ false }
     {
         TimedRecord {

@@ -4,12 +4,15 @@ use Rattle.std.proofs.Math.Seq.{take-append-add}
 use Rattle.std.proofs.lemmas.List.{length-append, take-append-le, take_all}
 use Rattle.std.proofs.lemmas.List.Sums.{fold-append}
 use Rattle.clap.specs.Words.{Text}
+use Rattle.sqlite.specs.State.{State}
 use Rattle.register.specs.Machine.{Outcome, accepted, kept, refused, after, after_one, is_accepted, state_after, step_of}
 use Rattle.register.specs.Offices.{OfficeState}
 use Rattle.register.specs.declared.command.Request.{Request}
 use Rattle.register.specs.declared.refusal.Reason.{Reason}
+use Rattle.tables.proofs.ReadLemmas.{only_reads_itself, only_reads_then}
+use Rattle.tables.specs.Reading.{OnlyReads}
 use Rattle.office.specs.Answers.{done, again, no, told_of}
-use Rattle.desk.specs.Records.{IsAfterAnswered, IsRecordOf, IsRecorded, Records}
+use Rattle.desk.specs.Records.{IsAfterAnswered, IsRecordOf, IsRecorded, Records, StaysOnceFailed}
 
 -- ---- what the machine answers
 
@@ -158,3 +161,29 @@ recorded_last s end front r others answered old mid new failed is so few it =
 pub recorded_end : (s end : OfficeState) (front : List Request) (old new : Text → Type 0) (failed : Bool) → end ≡ after s front → failed ≡ false → (IsRecordOf old s → IsRecordOf new end)
     → IsRecorded s (front ++ []) (0 + length front) old new failed
 recorded_end s end front old new failed is fine so = recorded_then s end front [] 0 old new new failed is so (none_recorded end [] new failed fine)
+
+-- ---- a record that failed earlier
+
+-- nothing was done
+pub stays_itself : {R : Type 0} (failed : R → Bool) (r : R) (a : State) → StaysOnceFailed failed r r a a
+stays_itself failed r a = λ has. (refl, only_reads_itself a)
+
+-- the office was only read
+pub stays_reading : {R : Type 0} (failed : R → Bool) (r : R) (a b : State) → OnlyReads a b → StaysOnceFailed failed r r a b
+stays_reading failed r a b reads = λ has. (refl, reads)
+
+-- the office was only read before
+pub stays_after_reading : {R : Type 0} (failed : R → Bool) (old new : R) (a b c : State) → OnlyReads a b → StaysOnceFailed failed old new b c → StaysOnceFailed failed old new a c
+stays_after_reading failed old new a b c reads then = λ has. let it = then has in (it.0, only_reads_then a b c reads it.1)
+
+-- one thing was done after another
+pub stays_then : {R : Type 0} (failed : R → Bool) (old mid new : R) (a b c : State) → StaysOnceFailed failed old mid a b → StaysOnceFailed failed mid new b c
+    → StaysOnceFailed failed old new a c
+stays_then failed old mid new a b c one other = λ has.
+    let first = one has in
+    let second = other (ap failed first.0 ∙ has) in
+    (second.0 ∙ first.0, only_reads_then a b c first.1 second.1)
+
+-- the record hadn't failed
+pub stays_unfailed : {R : Type 0} (failed : R → Bool) (old new : R) (a b : State) (is : Bool) → is ≡ failed old → is ≡ false → StaysOnceFailed failed old new a b
+stays_unfailed failed old new a b is value fine = λ has. absurd (true≢false (sym has ∙ sym value ∙ fine))

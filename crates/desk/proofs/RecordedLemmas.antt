@@ -1,5 +1,5 @@
 -- The outcome of a task for an office with a second record.
-use Rattle.std.proofs.Common.{◌≡◌, ◌∙◌, ℕ, Bool, false, List, take, ap, subst, sym}
+use Rattle.std.proofs.Common.{◌≡◌, ◌∙◌, ℕ, Bool, false, List, take, ap, refl, subst, sym}
 use Rattle.clap.specs.Words.{Text}
 use Rattle.sqlite.specs.State.{State}
 use Rattle.register.specs.Machine.{after}
@@ -11,7 +11,7 @@ use Rattle.desk.specs.Folders.{Folder}
 use Rattle.desk.specs.Headline.{Course, Headline, IsPerformed, PerformsBy}
 use Rattle.desk.specs.Pages.{Cut, IsShown, Outputs, Page}
 use Rattle.desk.specs.Parts.{ComesToRecorded}
-use Rattle.desk.specs.RecordedOrders.{HeadlineRecorded, IsPerformedRecorded, RecordPair}
+use Rattle.desk.specs.RecordedOrders.{HeadlineRecorded, IsPerformedRecorded, IsUntouchedRecord, RecordPair}
 use Rattle.desk.specs.Records.{IsRecordOf, IsRecorded, LeavesRecord}
 use Rattle.desk.specs.declared.orders.Task.{Task}
 use Rattle.desk.specs.declared.orders.Task.TheVariants as task
@@ -48,6 +48,15 @@ performed_recorded pair folder s task cut before then page ends old new shown (r
       recorded = records;
     }
 
+-- a recorder that is as it was leaves the record as it was
+pub untouched_record : {R : Type 0} (there : Bool) (found : R → Text → Type 0) (failed : R → Bool) (old new : R) → new ≡ old
+    → IsUntouchedRecord (record { there = there; found_old = found old; found_new = found new; failed_old = failed old; failed_new = failed new })
+untouched_record there found failed old new same = record {
+  left = λ text it. subst (λ r. found r text) same it;
+  known = λ text it. subst (λ r. found r text) (sym same) it;
+  failed = ap failed same;
+}
+
 -- a task that sends no request records nothing
 none_performed : (there : Bool) (found : Text → Type 0) (failed : Bool) (folder : Folder) (s : OfficeState) (task : Task) (cut : Cut) (page : Page) (ends : ℕ) (old new : State)
     → (it : IsPerformed folder s task cut page ends old new)
@@ -73,6 +82,8 @@ init_recorded there found failed folder cut page ends old new headline = record 
   in_office = λ db rests s left.
       let it = headline.in_office db rests s left in none_performed there found failed folder s task.Init cut page ends old new it it.comes (ap (λ (e : Course). e.answered) it.comes.2);
   elsewhere = headline.elsewhere;
+  record_elsewhere = untouched_record there (λ (t : Unit {0}). found) (λ t. failed) tt tt refl;
+  once_failed = tt;
 }
 
 pub migrate_recorded : (there : Bool) (found : Text → Type 0) (failed : Bool) (folder : Folder) (cut : Cut) (page : Page) (ends : ℕ) (old new : State)
@@ -82,6 +93,8 @@ migrate_recorded there found failed folder cut page ends old new headline = reco
   in_office = λ db rests s left.
       let it = headline.in_office db rests s left in none_performed there found failed folder s task.Migrate cut page ends old new it it.comes (ap (λ (e : Course). e.answered) it.comes.2);
   elsewhere = headline.elsewhere;
+  record_elsewhere = untouched_record there (λ (t : Unit {0}). found) (λ t. failed) tt tt refl;
+  once_failed = tt;
 }
 
 -- with no second record, the outcome is as for an office alone

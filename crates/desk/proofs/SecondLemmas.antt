@@ -119,10 +119,10 @@ module _ (s : OfficeState) (path : Text) (requests : List Request) (page : Page)
   told_there front last whole (inl told) lead = inl (inr (inl (front, last, whole, told, lead)))
   told_there front last whole (inr memory) lead = inr (Memory, memory, inl refl)
 
-  -- no journal was found, or an allocation failed
-  pub told_unjournalled : (page ≡ unjournalled) ⊎ (page ≡ out_of_memory) → IsDifference s path requests page
-  told_unjournalled (inl none) = inl (inr (inr (inr none)))
-  told_unjournalled (inr memory) = inr (Memory, memory, inl refl)
+  -- the office has more requests, but no journal; or an allocation failed
+  pub told_unjournalled : (there here : ℕ) → there ≡ length requests → here ≡ length s.receipts → there < here → (page ≡ unjournalled) ⊎ (page ≡ out_of_memory) → IsDifference s path requests page
+  told_unjournalled there here one two more (inl none) = inl (inr (inr (inr (none, omega (arith, one, two, more)))))
+  told_unjournalled there here one two more (inr memory) = inr (Memory, memory, inl refl)
 
   -- both hold the same
   pub told_same : (count : ℕ) → count ≡ length requests → (page ≡ printed (same_text path count)) ⊎ (page ≡ out_of_memory) → LeadTo requests s → IsCompared s path requests page

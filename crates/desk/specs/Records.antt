@@ -1,9 +1,11 @@
 -- The second record of an office: a script of the requests that it accepted, each written and flushed before it is acknowledged; and what a stop may leave of it.
 use Rattle.std.specs.Prelude.{◌≡◌, ◌⊎◌, ◌≤◌, ◌+◌, ◌++◌, ℕ, Bool, true, false, List, [], Option, Some, None, IfSome, length, take}
 use Rattle.clap.specs.Words.{Text}
+use Rattle.sqlite.specs.State.{State}
 use Rattle.register.specs.Machine.{after, after_one, is_accepted, step_of}
 use Rattle.register.specs.Offices.{OfficeState}
 use Rattle.register.specs.declared.command.Request.{Request}
+use Rattle.tables.specs.Reading.{OnlyReads}
 use Rattle.desk.specs.Journals.{IsJournalOf}
 use Rattle.desk.specs.Scripts.{whole_lines}
 
@@ -70,3 +72,7 @@ pub record IsRecorded (s : OfficeState) (requests : List Request) (answered : �
 pub record Records (request : Request) (old new : Text → Type 0) (failed : Bool) : Type 0 where
   pub whole : failed ≡ false → (s : OfficeState) → is_accepted (step_of s request) ≡ true → IsRecordOf old s → IsRecordOf new (after_one s request)
   pub leaves : (s : OfficeState) → is_accepted (step_of s request) ≡ true → IsRecordOf old s → LeavesRecord new (λ x. (x ≡ s) ⊎ (x ≡ after_one s request))
+
+-- Once a record has failed, it is left as it is, and the office is only read.
+abbrev pub StaysOnceFailed : {R : Type 0} → (R → Bool) → R → R → State → State → Type 0
+StaysOnceFailed failed old new before later = failed old ≡ true → (new ≡ old) × OnlyReads before later

@@ -100,9 +100,9 @@ pub record IsApart (s : OfficeState) (path : Text) (requests : List Request) (pa
   pub told : page ≡ unequal (apart_text path (length requests) (length s.receipts))
   pub other : length s.receipts < length requests → (earlier : List Request) (r : Request) → requests ≡ earlier ++ r ∷ [] → LeadTo earlier s → ⊥
 
--- How the office differs from the record. Or it isn't known: the office has more requests, and no journal in which to look for the one that the record lacks.
+-- How the office differs from the record. Or it isn't known: the office has more requests than the record, and no journal in which to look for the one that the record lacks.
 abbrev pub Differs : OfficeState → Text → List Request → Page → Type 0
-Differs s path requests page = HasOneMore s path requests page ⊎ (LacksOne s path requests page ⊎ (IsApart s path requests page ⊎ (page ≡ unjournalled)))
+Differs s path requests page = HasOneMore s path requests page ⊎ (LacksOne s path requests page ⊎ (IsApart s path requests page ⊎ ((page ≡ unjournalled) × (length requests < length s.receipts))))
 
 -- the office differs from the record; or a fault is reported, because an allocation or a store failed
 abbrev pub IsDifference : OfficeState → Text → List Request → Page → Type 0

@@ -9,7 +9,7 @@ ghost use Rattle.office.specs.Answers.{WhenOpenAt};
 ghost use Rattle.desk.specs.Orders.{sent_as};
 ghost use Rattle.desk.specs.Pages.{Tells, outputs_of, page_at_rest, page_of};
 ghost use Rattle.desk.specs.Parts.{ComesToRecorded, IsCountedBy, IsStageBy};
-ghost use Rattle.desk.specs.Records.{IsRecorded};
+ghost use Rattle.desk.specs.Records.{IsRecorded, StaysOnceFailed};
 ghost use Rattle.desk.specs.Requests.{advances, id_at, most_advances};
 
 use crate::lines::{LineOutcome, tell};
@@ -45,6 +45,7 @@ fn stage_of<S: Alter, R: Recorder>(
         × IsStageBy (R.failed recorder.new) (state S.Store office.old.held) office.new.closed (state S.Store office.new.held) is_first s request.now (page_of result.0) answered result.1
         × (R.failed recorder.old ≡ false → IsRecorded s (request.now ∷ []) answered (R.found recorder.old) (R.found recorder.new) (R.failed recorder.new))) }
     ensures same { R.records recorder.new ≡ R.records recorder.old }
+    ensures untouched { StaysOnceFailed R.failed recorder.old recorder.new (state S.Store office.old.held) (state S.Store office.new.held) }
     ensures keeps_connection { KeepsConnection (state S.Store office.old.held) (state S.Store office.new.held) }
     ensures clean { HasCleanDisk (state S.Store office.new.held) → HasCleanDisk (state S.Store office.old.held) }
 {
@@ -91,6 +92,7 @@ pub(crate) fn count_stages<S: Alter, R: Recorder, O: Sink, E: Sink>(
         → ComesToRecorded cut page (λ own answered. R.failed recorder.old ≡ false → IsRecorded s own answered (R.found recorder.old) (R.found recorder.new) (R.failed recorder.new))
         (IsCountedBy (R.failed recorder.new) (state S.Store office.old.held) office.new.closed (state S.Store office.new.held) keep line s ward id))) }
     ensures same { R.records recorder.new ≡ R.records recorder.old }
+    ensures untouched { StaysOnceFailed R.failed recorder.old recorder.new (state S.Store office.old.held) (state S.Store office.new.held) }
     ensures keeps_connection { KeepsConnection (state S.Store office.old.held) (state S.Store office.new.held) }
     ensures clean { HasCleanDisk (state S.Store office.new.held) → HasCleanDisk (state S.Store office.old.held) }
 {

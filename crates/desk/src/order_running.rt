@@ -10,7 +10,7 @@ ghost use Rattle.desk.specs.Folders.{HoldsText, IsFileAt};
 ghost use Rattle.desk.specs.Headline.{IsBegunBy, IsDone, IsDoneBy, IsPlayedBy};
 ghost use Rattle.desk.specs.Pages.{Tells, outputs_of, page_of};
 ghost use Rattle.desk.specs.Parts.{ComesTo, ComesToRecorded, IsUnreadScript};
-ghost use Rattle.desk.specs.Records.{IsRecorded};
+ghost use Rattle.desk.specs.Records.{IsRecorded, StaysOnceFailed};
 ghost use Rattle.desk.specs.Requests.{file_of};
 ghost use Rattle.desk.specs.Scripts.{IsNumberedPart, lines_of};
 
@@ -70,6 +70,7 @@ fn run<S: Alter, F: Folder, R: Recorder, O: Sink, E: Sink>(
         (λ course. IsPlayedBy (R.failed recorder.new) (state S.Store office.old.held) office.new.closed (state S.Store office.new.held)
         keep_going (F.held folder.now) s (record { line = line; errand = errand.now } ∷ []) course))) }
     ensures same { R.records recorder.new ≡ R.records recorder.old }
+    ensures untouched { StaysOnceFailed R.failed recorder.old recorder.new (state S.Store office.old.held) (state S.Store office.new.held) }
     ensures keeps_connection { KeepsConnection (state S.Store office.old.held) (state S.Store office.new.held) }
     ensures clean { HasCleanDisk (state S.Store office.new.held) → HasCleanDisk (state S.Store office.old.held) }
 {
@@ -131,6 +132,7 @@ fn run_steps<S: Alter, F: Folder, R: Recorder, O: Sink, E: Sink>(
         (λ own answered. R.failed recorder.old ≡ false → IsRecorded s own answered (R.found recorder.old) (R.found recorder.new) (R.failed recorder.new))
         (λ course. IsPlayedBy (R.failed recorder.new) (state S.Store office.old.held) office.new.closed (state S.Store office.new.held) keep_going (F.held folder.now) s turns.now course))) }
     ensures same { R.records recorder.new ≡ R.records recorder.old }
+    ensures untouched { StaysOnceFailed R.failed recorder.old recorder.new (state S.Store office.old.held) (state S.Store office.new.held) }
     ensures keeps_connection { KeepsConnection (state S.Store office.old.held) (state S.Store office.new.held) }
     ensures clean { HasCleanDisk (state S.Store office.new.held) → HasCleanDisk (state S.Store office.old.held) }
 {
@@ -173,6 +175,7 @@ fn run_part<S: Alter, F: Folder, R: Recorder, O: Sink, E: Sink>(
         (λ own answered. R.failed recorder.old ≡ false → IsRecorded s own answered (R.found recorder.old) (R.found recorder.new) (R.failed recorder.new))
         (λ course. IsBegunBy (R.failed recorder.new) (state S.Store office.old.held) office.new.closed (state S.Store office.new.held) true keep_going (F.held folder.now) s turns.now course))) }
     ensures same { R.records recorder.new ≡ R.records recorder.old }
+    ensures untouched { StaysOnceFailed R.failed recorder.old recorder.new (state S.Store office.old.held) (state S.Store office.new.held) }
     ensures keeps_connection { KeepsConnection (state S.Store office.old.held) (state S.Store office.new.held) }
     ensures clean { HasCleanDisk (state S.Store office.new.held) → HasCleanDisk (state S.Store office.old.held) }
 {
@@ -202,6 +205,7 @@ fn begin_steps<S: Alter, F: Folder, R: Recorder, O: Sink, E: Sink>(
         (λ own answered. R.failed recorder.old ≡ false → IsRecorded s own answered (R.found recorder.old) (R.found recorder.new) (R.failed recorder.new))
         (λ course. IsBegunBy (R.failed recorder.new) (state S.Store office.old.held) office.new.closed (state S.Store office.new.held) left_out keep_going (F.held folder.now) s turns.now course))) }
     ensures same { R.records recorder.new ≡ R.records recorder.old }
+    ensures untouched { StaysOnceFailed R.failed recorder.old recorder.new (state S.Store office.old.held) (state S.Store office.new.held) }
     ensures keeps_connection { KeepsConnection (state S.Store office.old.held) (state S.Store office.new.held) }
     ensures clean { HasCleanDisk (state S.Store office.new.held) → HasCleanDisk (state S.Store office.old.held) }
 {
@@ -233,6 +237,7 @@ fn run_script<S: Alter, F: Folder, R: Recorder, O: Sink, E: Sink>(
         (λ course. IsReplayOfBy (R.failed recorder.new) left_out keep_going (F.held folder.now) s (map typed_line_entry lines.now) course
         (state S.Store office.old.held) office.new.closed (state S.Store office.new.held)))) }
     ensures same { R.records recorder.new ≡ R.records recorder.old }
+    ensures untouched { StaysOnceFailed R.failed recorder.old recorder.new (state S.Store office.old.held) (state S.Store office.new.held) }
     ensures keeps_connection { KeepsConnection (state S.Store office.old.held) (state S.Store office.new.held) }
     ensures clean { HasCleanDisk (state S.Store office.new.held) → HasCleanDisk (state S.Store office.old.held) }
 {
@@ -322,6 +327,7 @@ fn replay<S: Alter, F: Folder, R: Recorder, O: Sink, E: Sink>(
         (λ own answered. R.failed recorder.old ≡ false → IsRecorded s own answered (R.found recorder.old) (R.found recorder.new) (R.failed recorder.new))
         (λ course. IsDoneBy (R.failed recorder.new) (state S.Store office.old.held) office.new.closed (state S.Store office.new.held) (F.held folder.now) s (Job.Replay asked.entry) course))) }
     ensures same { R.records recorder.new ≡ R.records recorder.old }
+    ensures untouched { StaysOnceFailed R.failed recorder.old recorder.new (state S.Store office.old.held) (state S.Store office.new.held) }
     ensures keeps_connection { KeepsConnection (state S.Store office.old.held) (state S.Store office.new.held) }
     ensures clean { HasCleanDisk (state S.Store office.new.held) → HasCleanDisk (state S.Store office.old.held) }
 {
@@ -362,6 +368,7 @@ pub fn follow_recorded<S: Alter, F: Folder, R: Recorder, O: Sink, E: Sink>(
         (λ own answered. R.failed recorder.old ≡ false → IsRecorded s own answered (R.found recorder.old) (R.found recorder.new) (R.failed recorder.new))
         (λ course. IsDoneBy (R.failed recorder.new) (state S.Store office.old.held) office.new.closed (state S.Store office.new.held) (F.held folder.now) s job.now course))) }
     ensures same { R.records recorder.new ≡ R.records recorder.old }
+    ensures untouched { StaysOnceFailed R.failed recorder.old recorder.new (state S.Store office.old.held) (state S.Store office.new.held) }
     ensures keeps_connection { KeepsConnection (state S.Store office.old.held) (state S.Store office.new.held) }
     ensures clean { HasCleanDisk (state S.Store office.new.held) → HasCleanDisk (state S.Store office.old.held) }
 {

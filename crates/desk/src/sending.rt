@@ -10,7 +10,7 @@ ghost use Rattle.office.specs.Answers.{WhenOpenAt};
 ghost use Rattle.desk.specs.Headline.{IsAnsweredBy, IsSentBy};
 ghost use Rattle.desk.specs.Pages.{Tells, goes_on, outputs_of, page_for, page_kept, page_of, combined_status};
 ghost use Rattle.desk.specs.Parts.{ComesToRecorded, IsFound, IsOver};
-ghost use Rattle.desk.specs.Records.{IsRecorded};
+ghost use Rattle.desk.specs.Records.{IsRecorded, StaysOnceFailed};
 
 use crate::lines::{LineOutcome, tell};
 use crate::record::Recorder;
@@ -64,6 +64,7 @@ fn outcome_of<S: Alter, R: Recorder>(
         × IsAnsweredBy (state S.Store office.old.held) office.new.closed (state S.Store office.new.held) (R.failed recorder.new) page_for s request.now answered (page_of result)
         × (R.failed recorder.old ≡ false → IsRecorded s (request.now ∷ []) answered (R.found recorder.old) (R.found recorder.new) (R.failed recorder.new))) }
     ensures same { R.records recorder.new ≡ R.records recorder.old }
+    ensures untouched { StaysOnceFailed R.failed recorder.old recorder.new (state S.Store office.old.held) (state S.Store office.new.held) }
     ensures keeps_connection { KeepsConnection (state S.Store office.old.held) (state S.Store office.new.held) }
     ensures clean { HasCleanDisk (state S.Store office.new.held) → HasCleanDisk (state S.Store office.old.held) }
 {
@@ -103,6 +104,7 @@ pub(crate) fn send_all<S: Alter, R: Recorder, O: Sink, E: Sink>(
         (λ course. IsSentBy (R.failed recorder.new) (state S.Store office.old.held) office.new.closed (state S.Store office.new.held) keep_going line page_for
         (IsOver office.new.closed (state S.Store office.new.held)) s requests.now course))) }
     ensures same { R.records recorder.new ≡ R.records recorder.old }
+    ensures untouched { StaysOnceFailed R.failed recorder.old recorder.new (state S.Store office.old.held) (state S.Store office.new.held) }
     ensures keeps_connection { KeepsConnection (state S.Store office.old.held) (state S.Store office.new.held) }
     ensures clean { HasCleanDisk (state S.Store office.new.held) → HasCleanDisk (state S.Store office.old.held) }
 {

@@ -15,7 +15,16 @@ use std::process::Abort;
 use std::test::Fail;
 use streams::{Broken, Sink};
 
-/// A page's text before its style.
+/// The text before the style, on a page with a title.
+const TITLED_HEAD: &str = r##"<!DOCTYPE html>
+<html lang="en">
+<head>
+<meta charset="utf-8">
+<meta name="viewport" content="width=device-width, initial-scale=1">
+<title>Ward 7 &lt;Harbour&gt;, Vote &amp; &lt;Council&gt;</title>
+"##;
+
+/// The text before the style, on a page without a title.
 const HEAD: &str = r##"<!DOCTYPE html>
 <html lang="en">
 <head>
@@ -28,18 +37,23 @@ const HEAD: &str = r##"<!DOCTYPE html>
 const DECLARED: &str = r##"
 </head>
 <body>
-<p class="running" aria-hidden="true">Ward 7 <bdi>&lt;Harbour&gt;</bdi></p>
+<p class="running" aria-hidden="true"><span>Ward 7 <bdi>&lt;Harbour&gt;</bdi></span> <bdi>Vote &amp; &lt;Council&gt;</bdi></p>
 <p class="title" dir="auto">Vote &amp; &lt;Council&gt;</p>
 <h1>Ward 7 <bdi>&lt;Harbour&gt;</bdi></h1>
 <p class="declared"><strong>Declared</strong></p>
-<div class="top">
-<div>
 <h2>Elected</h2>
 <ul class="names">
 <li><b>1 <bdi>Ann &lt;b&gt;</bdi></b> <span>6.00000 votes, elected at stage 1</span></li>
 <li><b>3 <bdi>רות</bdi></b> <span>2.66666 votes, elected at stage 3</span></li>
 </ul>
-</div>
+<h2>Votes of each candidate</h2>
+<svg class="patterns" width="0" height="0" aria-hidden="true"><defs><pattern id="later" width="4" height="4" patternUnits="userSpaceOnUse" patternTransform="rotate(45)"><rect width="4" height="4" fill="#fff"/><rect width="1.6" height="4" fill="#000"/></pattern></defs></svg><p class="key"><span class="elected"><svg class="bar" aria-hidden="true"><rect class="first" width="100%" height="100%"/></svg> votes at stage 1, elected</span> <span class="excluded"><svg class="bar" aria-hidden="true"><rect class="first" width="100%" height="100%"/></svg> votes at stage 1, excluded</span> <span class="neither"><svg class="bar" aria-hidden="true"><rect class="first" width="100%" height="100%"/></svg> votes at stage 1, neither</span> <span class="gained"><svg class="bar" aria-hidden="true"><rect class="later" width="100%" height="100%"/></svg> votes gained later</span> <span><svg class="bar" aria-hidden="true"><rect class="quota" x="45%" width="3" height="100%"/></svg> the quota, 4.00000</span></p>
+<ul class="chart">
+<li class="elected"><span class="who">1 <bdi>Ann &lt;b&gt;</bdi></span><svg class="bar" aria-hidden="true"><rect class="first" width="100%" height="100%"/><rect class="later" x="100%" width="0%" height="100%"/><rect class="quota" x="66%" width="3" height="100%"/></svg><span class="had">6.00000 at stage 1</span><span class="end"><b>elected</b> at stage 1, with 6.00000</span></li>
+<li class="excluded"><span class="who">2 <bdi>&quot;Bob&quot; &amp; &#39;Co&#39;</bdi></span><svg class="bar" aria-hidden="true"><rect class="first" width="16%" height="100%"/><rect class="later" x="16%" width="22%" height="100%"/><rect class="quota" x="66%" width="3" height="100%"/></svg><span class="had">1.00000 at stage 1</span><span class="end">excluded at stage 3, with 2.33332</span></li>
+<li class="elected"><span class="who">3 <bdi>רות</bdi></span><svg class="bar" aria-hidden="true"><rect class="first" width="33%" height="100%"/><rect class="later" x="33%" width="11%" height="100%"/><rect class="quota" x="66%" width="3" height="100%"/></svg><span class="had">2.00000 at stage 1</span><span class="end"><b>elected</b> at stage 3, with 2.66666</span></li>
+</ul>
+<div class="top">
 <div>
 <h2>Papers</h2>
 <table class="papers">
@@ -55,18 +69,15 @@ const DECLARED: &str = r##"
 <tr><th scope="row">Papers in all</th><td>54330</td></tr>
 </table>
 </div>
-</div>
-<h2>Lots drawn</h2>
+<div>
+<h2>Ties and lots</h2>
+<ul>
+</ul>
 <ul>
 <li>Lot at stage 3 between 2 <bdi>&quot;Bob&quot; &amp; &#39;Co&#39;</bdi>: excluded 2 <bdi>&quot;Bob&quot; &amp; &#39;Co&#39;</bdi></li>
 </ul>
-<h2>Votes of each candidate</h2>
-<svg class="patterns" width="0" height="0" aria-hidden="true"><defs><pattern id="later" width="4" height="4" patternUnits="userSpaceOnUse" patternTransform="rotate(45)"><rect width="4" height="4" fill="#fff"/><rect width="1.6" height="4" fill="#000"/></pattern></defs></svg><p class="key"><svg class="bar" aria-hidden="true"><rect class="first" width="100%" height="100%"/></svg> votes at stage 1, <span class="elected"><svg class="bar" aria-hidden="true"><rect class="first" width="100%" height="100%"/></svg> of the elected</span>, <span class="excluded"><svg class="bar" aria-hidden="true"><rect class="first" width="100%" height="100%"/></svg> of the excluded</span>; <svg class="bar" aria-hidden="true"><rect class="later" width="100%" height="100%"/></svg> votes gained later; <svg class="bar" aria-hidden="true"><rect class="quota" x="45%" width="3" height="100%"/></svg> the quota, 4.00000</p>
-<ul class="chart">
-<li class="elected"><span class="who">1 <bdi>Ann &lt;b&gt;</bdi></span><svg class="bar" aria-hidden="true"><rect class="first" width="100%" height="100%"/><rect class="later" x="100%" width="0%" height="100%"/><rect class="quota" x="66%" width="3" height="100%"/></svg><span class="had">6.00000 at stage 1</span><span class="end"><b>elected</b> at stage 1, with 6.00000</span></li>
-<li class="excluded"><span class="who">2 <bdi>&quot;Bob&quot; &amp; &#39;Co&#39;</bdi></span><svg class="bar" aria-hidden="true"><rect class="first" width="16%" height="100%"/><rect class="later" x="16%" width="22%" height="100%"/><rect class="quota" x="66%" width="3" height="100%"/></svg><span class="had">1.00000 at stage 1</span><span class="end">excluded at stage 3, with 2.33332</span></li>
-<li class="elected"><span class="who">3 <bdi>רות</bdi></span><svg class="bar" aria-hidden="true"><rect class="first" width="33%" height="100%"/><rect class="later" x="33%" width="11%" height="100%"/><rect class="quota" x="66%" width="3" height="100%"/></svg><span class="had">2.00000 at stage 1</span><span class="end"><b>elected</b> at stage 3, with 2.66666</span></li>
-</ul>
+</div>
+</div>
 <h2>Stages</h2>
 <div class="wide" role="region" tabindex="0" aria-label="Stages 1 to 3">
 <table class="stages">
@@ -127,16 +138,14 @@ const DECLARED: &str = r##"
 const NO_STAGE: &str = r##"
 </head>
 <body>
-<p class="running" aria-hidden="true">Ward 7 <bdi>&lt;Harbour&gt;</bdi></p>
+<p class="running" aria-hidden="true"><span>Ward 7 <bdi>&lt;Harbour&gt;</bdi></span> <bdi></bdi></p>
 <h1>Ward 7 <bdi>&lt;Harbour&gt;</bdi></h1>
-<p class="open"><strong>This is not a declared result.</strong> The ward is not declared yet, and what stands here may change.</p>
-<div class="top">
-<div>
+<p class="open"><strong>This is not a declared result.</strong> The ward is not declared yet, and this page may change.</p>
 <h2>Elected</h2>
 <ul class="names">
 </ul>
 <p>Seats not yet filled: 2</p>
-</div>
+<div class="top">
 <div>
 <h2>Papers</h2>
 <table class="papers">
@@ -152,9 +161,13 @@ const NO_STAGE: &str = r##"
 <tr><th scope="row">Papers in all</th><td>9</td></tr>
 </table>
 </div>
-</div>
-<h2>Lots drawn</h2>
+<div>
+<h2>Ties and lots</h2>
+<ul>
+</ul>
 <p>No lot was drawn.</p>
+</div>
+</div>
 <h2>Stages</h2>
 <p>No stage is done yet.</p>
 </body>
@@ -165,27 +178,24 @@ const NO_STAGE: &str = r##"
 const UNCONTESTED: &str = r##"
 </head>
 <body>
-<p class="running" aria-hidden="true">Ward 7 <bdi>&lt;Harbour&gt;</bdi></p>
+<p class="running" aria-hidden="true"><span>Ward 7 <bdi>&lt;Harbour&gt;</bdi></span> <bdi></bdi></p>
 <h1>Ward 7 <bdi>&lt;Harbour&gt;</bdi></h1>
 <p class="declared"><strong>Declared</strong></p>
-<div class="top">
-<div>
 <h2>Elected</h2>
 <ul class="names">
 <li><b>1 <bdi>Ann &lt;b&gt;</bdi></b></li>
 <li><b>2 <bdi>&quot;Bob&quot; &amp; &#39;Co&#39;</bdi></b></li>
 <li><b>3 <bdi>רות</bdi></b></li>
+<li class="empty">empty seat</li>
 </ul>
-<p>Seats that stay empty: 1</p>
 <p>Seats: 4. The ward is uncontested: there is no poll, and all its candidates are elected.</p>
-</div>
-</div>
 <div class="sign">
 <h2>Ward 7 <bdi>&lt;Harbour&gt;</bdi>: elected</h2>
 <ul>
 <li><b>1 <bdi>Ann &lt;b&gt;</bdi></b></li>
 <li><b>2 <bdi>&quot;Bob&quot; &amp; &#39;Co&#39;</bdi></b></li>
 <li><b>3 <bdi>רות</bdi></b></li>
+<li class="empty">empty seat</li>
 </ul>
 <h2>Signed</h2>
 <p>Date</p>
@@ -202,21 +212,17 @@ const UNCONTESTED: &str = r##"
 const NOT_DECLARED: &str = r##"
 </head>
 <body>
-<p class="running" aria-hidden="true">Ward 7 <bdi>&lt;Harbour&gt;</bdi></p>
+<p class="running" aria-hidden="true"><span>Ward 7 <bdi>&lt;Harbour&gt;</bdi></span> <bdi></bdi></p>
 <h1>Ward 7 <bdi>&lt;Harbour&gt;</bdi></h1>
-<p class="open"><strong>This is not a declared result.</strong> The ward is not declared yet, and what stands here may change.</p>
-<div class="top">
-<div>
+<p class="open"><strong>This is not a declared result.</strong> The ward is not declared yet, and this page may change.</p>
 <h2>Elected</h2>
 <ul class="names">
 <li><b>1 <bdi>Ann &lt;b&gt;</bdi></b></li>
 <li><b>2 <bdi>&quot;Bob&quot; &amp; &#39;Co&#39;</bdi></b></li>
 <li><b>3 <bdi>רות</bdi></b></li>
+<li class="empty">empty seat</li>
 </ul>
-<p>Seats that stay empty: 1</p>
 <p>Seats: 4. The ward is uncontested: there is no poll, and all its candidates are elected.</p>
-</div>
-</div>
 </body>
 </html>
 "##;
@@ -227,18 +233,19 @@ const INDEX_HEAD: &str = r##"<!DOCTYPE html>
 <head>
 <meta charset="utf-8">
 <meta name="viewport" content="width=device-width, initial-scale=1">
-<title>Wards</title>
+<title>Wards, Vote &amp; &lt;Council&gt;</title>
 "##;
 
 /// The text after the style, on the page of all wards.
 const INDEX: &str = r##"
 </head>
-<body>
+<body class="wards">
+<p class="running" aria-hidden="true"><span>Wards</span> <bdi>Vote &amp; &lt;Council&gt;</bdi></p>
 <p class="title" dir="auto">Vote &amp; &lt;Council&gt;</p>
 <h1>Wards</h1>
 <table class="index">
 <thead>
-<tr><th scope="col">Ward</th><th scope="col">Seats</th><th scope="col">How it stands</th><th scope="col">Elected</th></tr>
+<tr><th scope="col">Ward</th><th scope="col">Seats</th><th scope="col">Status</th><th scope="col">Elected</th></tr>
 </thead>
 <tbody>
 <tr><th scope="row">7 <bdi>&lt;Harbour&gt;</bdi></th><td>2</td><td><b>declared</b></td><td>
@@ -247,7 +254,7 @@ const INDEX: &str = r##"
 <li>3 <bdi>רות</bdi></li>
 </ul>
 </td></tr>
-<tr><th scope="row">8 <bdi>Quay</bdi></th><td>4</td><td>sealed, not declared yet</td><td>
+<tr><th scope="row">8 <bdi>Quay</bdi></th><td>4</td><td>its papers are being counted</td><td>
 <ul>
 </ul>
 </td></tr>
@@ -257,6 +264,16 @@ const INDEX: &str = r##"
 </td></tr>
 <tr><th scope="row">10 <bdi>Hill</bdi></th><td>1</td><td>nominations are open</td><td>
 <ul>
+</ul>
+</td></tr>
+<tr><th scope="row">11 <bdi>Holm</bdi></th><td>2</td><td>uncontested, not declared yet</td><td>
+<ul>
+</ul>
+</td></tr>
+<tr><th scope="row">12 <bdi>Isle</bdi></th><td>2</td><td><b>declared</b> uncontested</td><td>
+<ul>
+<li class="empty">empty seat</li>
+<li class="empty">empty seat</li>
 </ul>
 </td></tr>
 </tbody>
@@ -384,6 +401,12 @@ const LOTS: [&str; 2] = [
     "<li>Lot at stage 3 between 1 <bdi>Ann &lt;b&gt;</bdi> and 2 <bdi>&quot;Bob&quot; &amp; &#39;Co&#39;</bdi>: drawn 1 <bdi>Ann &lt;b&gt;</bdi></li>",
 ];
 
+/// The words for two ties that the first stage settled.
+const TIES: [&str; 2] = [
+    "<li>Stage 3, exclusion of 3 <bdi>רות</bdi>: 1 <bdi>Ann &lt;b&gt;</bdi> also had 3.00000 votes. At stage 1, the most recent at which they differed, 3 <bdi>רות</bdi> had 2.00000 and 1 <bdi>Ann &lt;b&gt;</bdi> 4.00000.</li>",
+    "<li>Stage 3, exclusion of 3 <bdi>רות</bdi>: 2 <bdi>&quot;Bob&quot; &amp; &#39;Co&#39;</bdi> also had 3.00000 votes. At stage 1, the most recent at which they differed, 3 <bdi>רות</bdi> had 2.00000 and 2 <bdi>&quot;Bob&quot; &amp; &#39;Co&#39;</bdi> 3.00000.</li>",
+];
+
 /// Returns the page of a ward that has no title and isn't declared.
 fn undeclared<'a>(ward: &'a Ward<'a>, stages: &'a [Stage], lots: &'a [(u8, u8)]) -> WardPage<'a> {
     WardPage {
@@ -395,45 +418,46 @@ fn undeclared<'a>(ward: &'a Ward<'a>, stages: &'a [Stage], lots: &'a [(u8, u8)])
     }
 }
 
+/// The number, name, seats and status of a ward, and whether it is contested.
+type Told = (u32, &'static str, u32, WardStanding, bool);
+
 /// Returns a ward for the page of all wards.
-fn listed(
-    alloc: Global,
-    number: u32,
-    name: &str,
-    seats: u32,
-    standing: WardStanding,
-) -> Result<ListedWard, AllocError> {
+fn listed(alloc: Global, told: Told) -> Result<ListedWard, AllocError> {
+    let (number, name, seats, standing, is_contested) = told;
     Ok(ListedWard {
         number,
         name: String::from_str(alloc, name)?,
         seats,
         standing,
+        is_contested,
         elected: Vec::new(alloc),
     })
 }
 
 /// Returns a declared ward, with its elected candidates.
 fn declared(alloc: Global) -> Result<ListedWard, AllocError> {
-    let mut ward = listed(alloc, 7, "<Harbour>", 2, WardStanding::Declared)?;
+    let mut ward = listed(alloc, (7, "<Harbour>", 2, WardStanding::Declared, true))?;
     for (c, name) in &[(1, "Ann <b>"), (3, "רות")] {
         ward.elected.push((*c, String::from_str(alloc, *name)?))?;
     }
     Ok(ward)
 }
 
-/// The wards that aren't declared.
-const OTHERS: [(u32, &str, u32, WardStanding); 3] = [
-    (8, "Quay", 4, WardStanding::Sealed),
-    (9, "Mill", 1, WardStanding::Keying),
-    (10, "Hill", 1, WardStanding::Nominations),
+/// Wards without elected candidates; the last one is declared, and its seats stay empty.
+const OTHERS: [Told; 5] = [
+    (8, "Quay", 4, WardStanding::Sealed, true),
+    (9, "Mill", 1, WardStanding::Keying, true),
+    (10, "Hill", 1, WardStanding::Nominations, false),
+    (11, "Holm", 2, WardStanding::Sealed, false),
+    (12, "Isle", 2, WardStanding::Declared, false),
 ];
 
 /// Returns all wards.
 fn wards_of(alloc: Global) -> Result<Vec<ListedWard>, AllocError> {
     let mut wards = Vec::new(alloc);
     wards.push(declared(alloc)?)?;
-    for (number, name, seats, standing) in &OTHERS {
-        wards.push(listed(alloc, *number, *name, *seats, *standing)?)?;
+    for told in &OTHERS {
+        wards.push(listed(alloc, *told)?)?;
     }
     Ok(wards)
 }
@@ -483,6 +507,20 @@ fn prints_tables_and_lots(
     has_words(rt, &undeclared(&ward, &stages, &[(2, 3), (3, 1)]), &LOTS)
 }
 
+/// Prints ties that an earlier stage settled.
+fn prints_ties(rt: &(impl Abort + AllocGlobal), candidates: &[(u8, String)]) -> Result<(), Fail> {
+    let ward = with_rejected(candidates);
+    let nobody = Columns::empty();
+    let first = stage_of(Action::First, [400000, 300000, 200000], nobody, 0);
+    let level = stage_of(Action::Surplus(1), [300000; 3], nobody, 0);
+    let excluded = stage_of(Action::Exclude(3), [300000, 300000, 0], nobody, 0);
+    has_words(
+        rt,
+        &undeclared(&ward, &[first, level, excluded], &[]),
+        &TIES,
+    )
+}
+
 /// Prints the page of a declared ward, and its pages before the first stage and after later ones.
 fn prints_contested(
     rt: &(impl Abort + AllocGlobal),
@@ -497,8 +535,9 @@ fn prints_contested(
         stages: &stages,
         lots: &[(3, 2)],
     };
-    prints_page(rt, &printed, HEAD, DECLARED)?;
+    prints_page(rt, &printed, TITLED_HEAD, DECLARED)?;
     prints_tables_and_lots(rt, candidates)?;
+    prints_ties(rt, candidates)?;
     let ward = harbour(candidates, 2, poll_of([0; 5]));
     prints_page(rt, &undeclared(&ward, &[], &[]), HEAD, NO_STAGE)
 }

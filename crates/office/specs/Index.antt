@@ -1,5 +1,5 @@
 -- The page listing all wards in a given state.
-use Rattle.std.specs.Prelude.{ℕ, Bool, false, nat_eq, List, map, Option, Some, None, Result, Ok}
+use Rattle.std.specs.Prelude.{ℕ, Bool, false, nat_eq, nat_lt, List, map, Option, Some, None, Result, Ok}
 use Rattle.std.specs.List.{filter, list_any}
 use Rattle.sheet.specs.Index.{ListedEntry, index}
 use Rattle.sheet.specs.declared.index.WardStanding.{WardStanding}
@@ -23,13 +23,14 @@ abbrev pub is_among_elected : Option (List ℕ) → CandidateEntry → Bool
 is_among_elected None c = false
 is_among_elected (Some elected) c = list_any (nat_eq c.number) elected
 
--- a ward's entry in the list, with the numbers and names of the elected candidates once the ward is declared
+-- a ward's entry in the list, with whether it has more candidates than seats, and the numbers and names of the elected candidates once the ward is declared
 abbrev pub listed_shown : WardView → ListedEntry
 listed_shown v = record {
   number = v.ward.number;
   name = v.ward.name;
   seats = v.ward.seats;
   standing = standing_in v.ward.phase;
+  is_contested = nat_lt v.ward.seats v.status.candidates;
   elected = map candidate_shown (filter (is_among_elected v.elected) v.candidates);
 }
 

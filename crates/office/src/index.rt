@@ -84,6 +84,7 @@ fn listed_of(alloc: Global, overview: &WardOverview) -> Result<ListedWard, Alloc
         name: overview.ward.name.clone()?,
         seats: overview.ward.seats,
         standing: standing_in(overview.ward.phase),
+        is_contested: (overview.ward.seats as usize) < overview.status.candidates,
         elected: elected_names(alloc, &overview.elected, &overview.candidates)?,
     })
 }
@@ -123,7 +124,7 @@ impl<S: Alter> Office<S> {
     }
 
     /// Returns the page listing all wards, to be displayed in public. It shows the standing of each ward and, once the
-    /// ward is declared, who is elected. An empty title is left out.
+    /// ward is declared, who is elected and which seats stay empty. An empty title is left out.
     ///
     /// Nothing is changed. After `Memory` the office stays open; any other fault closes it. A closed office returns
     /// `Closed`.

@@ -13,3 +13,4 @@ pub mod Places
 pub mod Ties
 mod WorkedLots
 pub mod TieLaw
+mod SettledLaw

@@ -55,7 +55,7 @@ any_cong p q [] h = refl
 any_cong p q (x ∷ xs) h = ap₂ (λ (a b : Bool). a || b) (h x) (any_cong p q xs h)
 
 -- if no member passes a test, each member fails it
-any_false : (p : ℕ → Bool) (x : ℕ) (xs : List ℕ) → list_any p xs ≡ false → In x xs → p x ≡ false
+pub any_false : (p : ℕ → Bool) (x : ℕ) (xs : List ℕ) → list_any p xs ≡ false → In x xs → p x ≡ false
 any_false p x [] none here = absurd (true≢false (sym here))
 any_false p x (y ∷ ys) none here = by (nat_eq x y) refl (any_false p x ys (or_false (p y) (list_any p ys) none).1) here
   where
@@ -159,7 +159,7 @@ module _ (stages : History) (candidates : List ℕ) (P : ℕ → Bool) (worse : 
 
 -- ---- the candidates tied in a count
 
-open_elected : (contest : Contest) (stages : History) (c : ℕ) → undecided_fill contest stages ≡ false → is_elected contest stages c ≡ has_reached contest stages c
+pub open_elected : (contest : Contest) (stages : History) (c : ℕ) → undecided_fill contest stages ≡ false → is_elected contest stages c ≡ has_reached contest stages c
 open_elected contest stages c unfilled = ap (λ (b : Bool). has_reached contest stages c || (b && not (is_excluded stages c))) unfilled ∙ or_none (has_reached contest stages c)
   where
     or_none : (b : Bool) → (b || false) ≡ b
@@ -265,7 +265,7 @@ tied_alike contest handed (s ∷ before) k c kind tied fair rankings right due a
 
 -- ---- on a page
 
-any_reverse : (p : Stage → Bool) (stages : List Stage) → list_any p (reverse stages) ≡ list_any p stages
+pub any_reverse : (p : Stage → Bool) (stages : List Stage) → list_any p (reverse stages) ≡ list_any p stages
 any_reverse p [] = refl
 any_reverse p (s ∷ stages) =
     ap (list_any p) (reverse-append (s ∷ []) stages) ∙ list_any-append p (reverse stages) (s ∷ []) ∙ ap (λ (b : Bool). b || (p s || false)) (any_reverse p stages) ∙ swap (p s) (list_any p stages)

@@ -104,7 +104,7 @@ chart_row scale stages c name = chart_line scale (votes_or 0 (slice_get stages 0
 
 -- the part before the rows, which explains the bars
 abbrev pub chart_head : ℕ → List ℕ
-chart_head quota = line (codes "<h2>Votes of each candidate</h2>\n" ∷ patterns ∷ legend ∷ votes_text quota ∷ codes "</p>\n<ul class=\"chart\">" ∷ [])
+chart_head quota = line (codes "<h2>Votes of each candidate</h2>\n" ∷ patterns ∷ legend ∷ votes_text quota ∷ codes "</span></p>\n<ul class=\"chart\">" ∷ [])
 
 -- the chart of the stages of a ward
 abbrev pub chart : SheetEntry → Scale → List Stage → List ℕ

@@ -13,6 +13,7 @@ pub mod Look
 pub mod Chart
 pub mod Table
 pub mod Lots
+pub mod Ties
 pub mod Page
 pub mod Index
 pub mod Spreadsheet

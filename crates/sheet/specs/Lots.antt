@@ -60,8 +60,8 @@ lot_item ward stages lot =
     ++ tied_names ward (stages_before stages lot.0) lot.1
     ++ line (settled_at (slice_get stages (lot.0 - 1)) ∷ named lot.1 (name_or_withdrawn (name_at ward.candidates lot.1)) ∷ codes "</li>" ∷ [])
 
--- the lots that were drawn
+-- the lots that were drawn, below the ties that earlier stages settled
 abbrev pub lots_text : SheetEntry → List Stage → List (ℕ × ℕ) → List ℕ
 lots_text ward stages lots =
-    if length lots == 0 then line (codes "<h2>Lots drawn</h2>\n<p>No lot was drawn.</p>" ∷ [])
-    else line (codes "<h2>Lots drawn</h2>\n<ul>" ∷ []) ++ flat_map (lot_item ward stages) lots ++ line (codes "</ul>" ∷ [])
+    if length lots == 0 then line (codes "<p>No lot was drawn.</p>" ∷ [])
+    else line (codes "<ul>" ∷ []) ++ flat_map (lot_item ward stages) lots ++ line (codes "</ul>" ∷ [])

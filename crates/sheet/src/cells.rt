@@ -99,7 +99,7 @@ fn write_votes_cell<W: Sink>(
 }
 
 /// Returns the name of the candidate that an action concerns; empty for the first stage.
-fn name_in<'a>(ward: &Ward<'a>, action: Action) -> &'a str
+pub fn name_in<'a>(ward: &Ward<'a>, action: Action) -> &'a str
     ensures { result.now ≡ name_with (shown ward.now).candidates action }
 {
     match action {

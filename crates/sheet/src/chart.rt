@@ -281,7 +281,7 @@ fn write_chart_head<W: Sink>(sink: &mut W, quota: Votes) -> Result<(), Broken>
         Piece::Text(patterns()),
         Piece::Text(legend()),
         Piece::Value(quota),
-        Piece::Text("</p>\n<ul class=\"chart\">"),
+        Piece::Text("</span></p>\n<ul class=\"chart\">"),
     ];
     write_line(sink, &pieces)
 }

@@ -3,8 +3,8 @@
 ghost use Rattle.std.specs.Prelude.{◌≡◌, ◌-◌, ◌^◌, ◌<◌};
 ghost use Rattle.sheet.specs.Cells.{from_place};
 ghost use Rattle.sheet.specs.Entries.{shown};
-ghost use Rattle.sheet.specs.Page.{elected_at, elected_end, elected_items, elected_text, item_at};
-ghost use Rattle.sheet.specs.Page.{left_in as left_of_ward, left_words as words_of, seats_left as left_of, stay_empty as are_empty, unopposed_item};
+ghost use Rattle.sheet.specs.Page.{elected_at, elected_end, elected_items, elected_text, empty_seat, empty_seats, item_at};
+ghost use Rattle.sheet.specs.Page.{left_in as left_of_ward, open_end, seats_left as left_of, stay_empty as are_empty, unopposed_item};
 ghost use Rattle.sheet.specs.Writing.{Writes};
 
 use crate::each_candidate::{OfCandidate, write_each};
@@ -112,7 +112,7 @@ fn seats_left(seats: u8, stages: &[Stage]) -> usize
 }
 
 /// Returns the number of seats of a ward that remain. In an uncontested ward, this is known without a count.
-fn left_in(ward: &Ward, stages: &[Stage]) -> usize
+pub fn left_in(ward: &Ward, stages: &[Stage]) -> usize
     ensures { result ≡ left_of_ward (shown ward.now) ward.now.poll stages.now }
 {
     match ward.poll {
@@ -131,31 +131,51 @@ fn stay_empty(poll: Option<Poll>, is_declared: bool) -> bool
     }
 }
 
-/// Returns the text about the remaining seats.
-fn left_words(is_final: bool) -> &'static str
-    ensures { result.now ≡ words_of is_final }
+/// Writes a seat that stays empty.
+fn write_empty_seat<W: Sink>(sink: &mut W) -> Result<(), Broken>
+    requires { W.failed sink.old < 2 ^ 64 - 1 }
+    ensures { Writes W.taken W.failed sink.old sink.new empty_seat result }
 {
-    if is_final {
-        "</ul>\n<p>Seats that stay empty: "
-    } else {
-        "</ul>\n<p>Seats not yet filled: "
-    }
+    write_line(sink, &[Piece::Text("<li class=\"empty\">empty seat</li>")])
 }
 
-/// Writes the end of the list of elected candidates, with the number of remaining seats, if any.
-fn write_elected_end<W: Sink>(sink: &mut W, is_final: bool, left: usize) -> Result<(), Broken>
+/// Writes the given number of seats that stay empty, each on its own line.
+pub fn write_empty_seats<W: Sink>(sink: &mut W, left: usize) -> Result<(), Broken>
     requires { W.failed sink.old < 2 ^ 64 - 1 }
-    ensures { Writes W.taken W.failed sink.old sink.new (elected_end is_final left) result }
+    ensures { Writes W.taken W.failed sink.old sink.new (empty_seats left) result }
+{
+    for _ in 0..left {
+        write_empty_seat(sink)?;
+    }
+    Ok(())
+}
+
+/// Writes the end of the list of elected candidates, with the number of seats that aren't filled yet.
+fn write_open_end<W: Sink>(sink: &mut W, left: usize) -> Result<(), Broken>
+    requires { W.failed sink.old < 2 ^ 64 - 1 }
+    ensures { Writes W.taken W.failed sink.old sink.new (open_end left) result }
 {
     if left == 0 {
         return write_line(sink, &[Piece::Text("</ul>")]);
     }
-    let words = Piece::Text(left_words(is_final));
+    let words = Piece::Text("</ul>\n<p>Seats not yet filled: ");
     let end = Piece::Text("</p>");
     write_line(sink, &[words, Piece::Number(left as u64), end])
 }
 
-/// Writes the elected candidates and the number of remaining seats.
+/// Writes the end of the list of elected candidates, with the remaining seats: each that stays empty, or else their number.
+fn write_elected_end<W: Sink>(sink: &mut W, is_final: bool, left: usize) -> Result<(), Broken>
+    requires { W.failed sink.old < 2 ^ 64 - 1 }
+    ensures { Writes W.taken W.failed sink.old sink.new (elected_end is_final left) result }
+{
+    if is_final {
+        write_empty_seats(sink, left)?;
+        return write_line(sink, &[Piece::Text("</ul>")]);
+    }
+    write_open_end(sink, left)
+}
+
+/// Writes the elected candidates and the remaining seats.
 pub fn write_elected<W: Sink>(
     sink: &mut W,
     ward: &Ward,
@@ -165,7 +185,7 @@ pub fn write_elected<W: Sink>(
     requires { W.failed sink.old < 2 ^ 64 - 1 }
     ensures { Writes W.taken W.failed sink.old sink.new (elected_text (shown ward.now) is_declared stages.now) result }
 {
-    let opening = Piece::Text("<div class=\"top\">\n<div>\n<h2>Elected</h2>\n<ul class=\"names\">");
+    let opening = Piece::Text("<h2>Elected</h2>\n<ul class=\"names\">");
     write_line(sink, &[opening])?;
     write_elected_items(sink, ward, stages)?;
     let is_final = stay_empty(ward.poll, is_declared);

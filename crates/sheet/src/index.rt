@@ -1,13 +1,15 @@
 //! The public page of all wards.
 
-ghost use Rattle.std.specs.Prelude.{◌≡◌, ◌-◌, ◌^◌, ◌<◌, map};
+ghost use Rattle.std.specs.Prelude.{◌≡◌, ◌-◌, ◌^◌, ◌<◌, length, map};
 ghost use Rattle.std.specs.List.{flat_map};
-ghost use Rattle.sheet.specs.Index.{elected_name, elected_shown, index, index_heads, index_opening, index_row, listed, row_opening, standing_words as words_of};
+ghost use Rattle.sheet.specs.Index.{elected_name, elected_shown, empty_in as empty_of, index, index_heads, index_opening, index_row, listed};
+ghost use Rattle.sheet.specs.Index.{row_opening, standing_words as words_of};
 ghost use Rattle.sheet.specs.Writing.{Writes};
 
+use crate::elected::write_empty_seats;
 use crate::line::{Piece, write_line, write_text};
 use crate::look::style;
-use crate::page::write_title;
+use crate::page::{title_mark, write_title};
 use streams::{Broken, Sink};
 
 /// The public status of a ward.
@@ -17,32 +19,55 @@ pub enum WardStanding {
     Nominations,
     /// Its papers are being keyed.
     Keying,
-    /// It is sealed, but not declared yet.
+    /// It is sealed, and is being counted if it is contested; it isn't declared yet.
     Sealed,
     /// It is declared.
     Declared,
 }
 
-/// A ward as shown on the page of all wards: its number and name, its seats, its status, and, once it is declared, the number and
-/// name of each elected candidate.
+/// A ward as shown on the page of all wards: its number and name, its seats, its status, whether it has more candidates than seats,
+/// and, once it is declared, the number and name of each elected candidate.
 #[derive(Drop)]
 pub struct ListedWard {
     pub number: u32,
     pub name: String,
     pub seats: u32,
     pub standing: WardStanding,
+    pub is_contested: bool,
     pub elected: Vec<(u32, String)>,
 }
 
 /// Returns the status of a ward, in words.
-fn standing_words(standing: WardStanding) -> &'static str
-    ensures { result.now ≡ words_of standing }
+fn standing_words(standing: WardStanding, is_contested: bool) -> &'static str
+    ensures { result.now ≡ words_of standing is_contested }
 {
     match standing {
         WardStanding::Nominations => "nominations are open",
         WardStanding::Keying => "its papers are being keyed",
-        WardStanding::Sealed => "sealed, not declared yet",
-        WardStanding::Declared => "<b>declared</b>",
+        WardStanding::Sealed => {
+            if is_contested {
+                "its papers are being counted"
+            } else {
+                "uncontested, not declared yet"
+            }
+        }
+        WardStanding::Declared => {
+            if is_contested {
+                "<b>declared</b>"
+            } else {
+                "<b>declared</b> uncontested"
+            }
+        }
+    }
+}
+
+/// Returns the number of seats of a ward that stay empty.
+fn empty_in(ward: &ListedWard) -> usize
+    ensures { result ≡ empty_of ward.now.standing ward.now.seats (length (map elected_shown ward.now.elected.items)) }
+{
+    match ward.standing {
+        WardStanding::Nominations | WardStanding::Keying | WardStanding::Sealed => 0,
+        WardStanding::Declared => (ward.seats as usize).saturating_sub(ward.elected.len()),
     }
 }
 
@@ -78,7 +103,7 @@ fn write_row_opening<W: Sink>(sink: &mut W, ward: &ListedWard) -> Result<(), Bro
         Piece::Text("</th><td>"),
         Piece::Number(u64::from(ward.seats)),
         Piece::Text("</td><td>"),
-        Piece::Text(standing_words(ward.standing)),
+        Piece::Text(standing_words(ward.standing, ward.is_contested)),
         Piece::Text("</td><td>\n<ul>"),
     ];
     write_line(sink, &pieces)
@@ -91,6 +116,7 @@ fn write_index_row<W: Sink>(sink: &mut W, ward: &ListedWard) -> Result<(), Broke
 {
     write_row_opening(sink, ward)?;
     write_elected_names(sink, &ward.elected)?;
+    write_empty_seats(sink, empty_in(ward))?;
     write_line(sink, &[Piece::Text("</ul>\n</td></tr>")])
 }
 
@@ -105,17 +131,24 @@ fn write_index_rows<W: Sink>(sink: &mut W, wards: &[ListedWard]) -> Result<(), B
     Ok(())
 }
 
-/// Writes the document's head.
-fn write_index_opening<W: Sink>(sink: &mut W) -> Result<(), Broken>
+/// Writes the document's head, and the line for the top of each printed sheet.
+fn write_index_opening<W: Sink>(sink: &mut W, title: &str) -> Result<(), Broken>
     requires { W.failed sink.old < 2 ^ 64 - 1 }
-    ensures { Writes W.taken W.failed sink.old sink.new index_opening result }
+    ensures { Writes W.taken W.failed sink.old sink.new (index_opening title.now) result }
 {
     let pieces = [
         Piece::Text(
-            "<!DOCTYPE html>\n<html lang=\"en\">\n<head>\n<meta charset=\"utf-8\">\n<meta name=\"viewport\" content=\"width=device-width, initial-scale=1\">\n<title>Wards</title>\n<style>\n",
+            "<!DOCTYPE html>\n<html lang=\"en\">\n<head>\n<meta charset=\"utf-8\">\n<meta name=\"viewport\" content=\"width=device-width, initial-scale=1\">\n<title>Wards",
         ),
+        Piece::Text(title_mark(title)),
+        Piece::Escaped(title),
+        Piece::Text("</title>\n<style>\n"),
         Piece::Text(style()),
-        Piece::Text("</style>\n</head>\n<body>"),
+        Piece::Text(
+            "</style>\n</head>\n<body class=\"wards\">\n<p class=\"running\" aria-hidden=\"true\"><span>Wards</span> <bdi>",
+        ),
+        Piece::Escaped(title),
+        Piece::Text("</bdi></p>"),
     ];
     write_line(sink, &pieces)
 }
@@ -130,14 +163,14 @@ fn write_index_heads<W: Sink>(sink: &mut W) -> Result<(), Broken>
             "<h1>Wards</h1>\n<table class=\"index\">\n<thead>\n<tr><th scope=\"col\">Ward</th><th scope=\"col\">Seats</th>",
         ),
         Piece::Text(
-            "<th scope=\"col\">How it stands</th><th scope=\"col\">Elected</th></tr>\n</thead>\n<tbody>",
+            "<th scope=\"col\">Status</th><th scope=\"col\">Elected</th></tr>\n</thead>\n<tbody>",
         ),
     ];
     write_line(sink, &pieces)
 }
 
-/// Writes the page of all wards, as one HTML file: the seats and the status of each ward, and its elected candidates once it is
-/// declared. An empty title is omitted.
+/// Writes the page of all wards, as one HTML file: the seats and the status of each ward, and its elected candidates and empty seats
+/// once it is declared. An empty title is omitted.
 ///
 /// Allocates nothing. `Broken` only if the sink fails; it has then accepted a prefix of the page, and its failure count is one
 /// higher.
@@ -145,7 +178,7 @@ pub fn write_index<W: Sink>(sink: &mut W, title: &str, wards: &[ListedWard]) -> 
     requires { W.failed sink.old < 2 ^ 64 - 1 }
     ensures { Writes W.taken W.failed sink.old sink.new (index title.now (map listed wards.now)) result }
 {
-    write_index_opening(sink)?;
+    write_index_opening(sink, title)?;
     write_title(sink, title)?;
     write_index_heads(sink)?;
     write_index_rows(sink, wards)?;

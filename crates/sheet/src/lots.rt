@@ -171,7 +171,7 @@ fn write_lot_items<W: Sink>(
     Ok(())
 }
 
-/// Writes the lots that were drawn.
+/// Writes the lots that were drawn, below the ties that earlier stages settled.
 pub fn write_lots<W: Sink>(
     sink: &mut W,
     ward: &Ward,
@@ -182,10 +182,10 @@ pub fn write_lots<W: Sink>(
     ensures { Writes W.taken W.failed sink.old sink.new (lots_text (shown ward.now) stages.now lots.now) result }
 {
     if lots.is_empty() {
-        let none = Piece::Text("<h2>Lots drawn</h2>\n<p>No lot was drawn.</p>");
+        let none = Piece::Text("<p>No lot was drawn.</p>");
         return write_line(sink, &[none]);
     }
-    write_line(sink, &[Piece::Text("<h2>Lots drawn</h2>\n<ul>")])?;
+    write_line(sink, &[Piece::Text("<ul>")])?;
     write_lot_items(sink, ward, stages, lots)?;
     write_line(sink, &[Piece::Text("</ul>")])
 }

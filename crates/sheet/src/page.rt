@@ -3,16 +3,17 @@
 ghost use Rattle.std.specs.Prelude.{◌≡◌, ◌-◌, ◌^◌, ◌<◌, ◌≤◌};
 ghost use Rattle.votes.specs.Units.{max_papers, max_seats};
 ghost use Rattle.sheet.specs.Entries.{shown};
-ghost use Rattle.sheet.specs.Page.{foot, grounds, note as note_of, opening as opening_of, page, page_head, papers_table};
-ghost use Rattle.sheet.specs.Page.{rejected_in_all as in_all, signatures, stages_part, title_line, uncontested_text, ward_heading};
+ghost use Rattle.sheet.specs.Page.{chart_part, foot, grounds, note as note_of, opening as opening_of, page, page_head, papers_table};
+ghost use Rattle.sheet.specs.Page.{rejected_in_all as in_all, signatures, stages_part, title_line, title_mark as mark_of, uncontested_text, ward_heading};
 ghost use Rattle.sheet.specs.Wards.{CanBePrinted};
 ghost use Rattle.sheet.specs.Writing.{Writes};
 
 use crate::chart::{scale_of, write_chart};
-use crate::elected::{write_elected, write_elected_items};
+use crate::elected::{left_in, write_elected, write_elected_items, write_empty_seats};
 use crate::line::{Piece, write_line, write_text};
 use crate::look::style;
 use crate::lots::write_lots;
+use crate::settled_ties::write_ties;
 use crate::table::write_tables;
 use crate::ward::{Poll, Ward};
 use count::Stage;
@@ -20,6 +21,13 @@ use streams::{Broken, Sink};
 use votes::quota;
 
 // ---- the head
+
+/// Returns what separates a title from the text before it.
+pub fn title_mark(title: &str) -> &'static str
+    ensures { result.now ≡ mark_of title.now }
+{
+    if title.is_empty() { "" } else { ", " }
+}
 
 /// Writes a title, unless it is empty.
 pub fn write_title<W: Sink>(sink: &mut W, title: &str) -> Result<(), Broken>
@@ -44,14 +52,14 @@ fn note(is_declared: bool) -> &'static str
     if is_declared {
         "<p class=\"declared\"><strong>Declared</strong></p>"
     } else {
-        "<p class=\"open\"><strong>This is not a declared result.</strong> The ward is not declared yet, and what stands here may change.</p>"
+        "<p class=\"open\"><strong>This is not a declared result.</strong> The ward is not declared yet, and this page may change.</p>"
     }
 }
 
 /// Writes the document's head, and the line for the top of each printed sheet.
-fn write_opening<W: Sink>(sink: &mut W, ward: &Ward) -> Result<(), Broken>
+fn write_opening<'a, W: Sink>(sink: &mut W, ward: &Ward<'a>, title: &'a str) -> Result<(), Broken>
     requires { W.failed sink.old < 2 ^ 64 - 1 }
-    ensures { Writes W.taken W.failed sink.old sink.new (opening_of (shown ward.now)) result }
+    ensures { Writes W.taken W.failed sink.old sink.new (opening_of (shown ward.now) title.now) result }
 {
     let pieces = [
         Piece::Text(
@@ -60,11 +68,17 @@ fn write_opening<W: Sink>(sink: &mut W, ward: &Ward) -> Result<(), Broken>
         Piece::Number(u64::from(ward.number)),
         Piece::Text(" "),
         Piece::Escaped(ward.name),
+        Piece::Text(title_mark(title)),
+        Piece::Escaped(title),
         Piece::Text("</title>\n<style>\n"),
         Piece::Text(style()),
-        Piece::Text("</style>\n</head>\n<body>\n<p class=\"running\" aria-hidden=\"true\">Ward "),
+        Piece::Text(
+            "</style>\n</head>\n<body>\n<p class=\"running\" aria-hidden=\"true\"><span>Ward ",
+        ),
         Piece::Named(ward.number, ward.name),
-        Piece::Text("</p>"),
+        Piece::Text("</span> <bdi>"),
+        Piece::Escaped(title),
+        Piece::Text("</bdi></p>"),
     ];
     write_line(sink, &pieces)
 }
@@ -93,7 +107,7 @@ fn write_page_head<W: Sink>(
     requires { W.failed sink.old < 2 ^ 64 - 1 }
     ensures { Writes W.taken W.failed sink.old sink.new (page_head (shown ward.now) title.now is_declared) result }
 {
-    write_opening(sink, ward)?;
+    write_opening(sink, ward, title)?;
     write_title(sink, title)?;
     write_ward_heading(sink, ward, is_declared)
 }
@@ -123,7 +137,7 @@ fn write_papers_table<W: Sink>(sink: &mut W, seats: u8, poll: &Poll) -> Result<(
     let rejected = rejected_in_all(&poll.rejected);
     let pieces = [
         Piece::Text(
-            "</div>\n<div>\n<h2>Papers</h2>\n<table class=\"papers\">\n<tr><th scope=\"row\">Seats</th><td>",
+            "<div class=\"top\">\n<div>\n<h2>Papers</h2>\n<table class=\"papers\">\n<tr><th scope=\"row\">Seats</th><td>",
         ),
         Piece::Number(u64::from(seats)),
         Piece::Text("</td></tr>\n<tr><th scope=\"row\">Valid papers</th><td>"),
@@ -154,7 +168,7 @@ fn write_papers_table<W: Sink>(sink: &mut W, seats: u8, poll: &Poll) -> Result<(
         Piece::Number(rejected),
         Piece::Text("</td></tr>\n<tr><th scope=\"row\">Papers in all</th><td>"),
         Piece::Number(u64::from(poll.valid) + rejected),
-        Piece::Text("</td></tr>\n</table>\n</div>\n</div>"),
+        Piece::Text("</td></tr>\n</table>\n</div>\n<div>"),
     ];
     write_line(sink, &pieces)
 }
@@ -168,14 +182,14 @@ fn write_uncontested<W: Sink>(sink: &mut W, seats: u8) -> Result<(), Broken>
         Piece::Text("<p>Seats: "),
         Piece::Number(u64::from(seats)),
         Piece::Text(
-            ". The ward is uncontested: there is no poll, and all its candidates are elected.</p>\n</div>\n</div>",
+            ". The ward is uncontested: there is no poll, and all its candidates are elected.</p>",
         ),
     ];
     write_line(sink, &pieces)
 }
 
-/// Writes the stages, both as a chart and as tables.
-fn write_stages_part<W: Sink>(
+/// Writes the chart of the stages, once there is one.
+fn write_chart_part<W: Sink>(
     sink: &mut W,
     ward: &Ward,
     poll: &Poll,
@@ -185,18 +199,28 @@ fn write_stages_part<W: Sink>(
     requires few_seats { ward.now.seats ≤ max_seats }
     requires few { poll.now.valid ≤ max_papers }
     requires failures { W.failed sink.old < 2 ^ 64 - 1 }
-    ensures { Writes W.taken W.failed sink.old sink.new (stages_part (shown ward.now) poll.now stages.now) result }
+    ensures { Writes W.taken W.failed sink.old sink.new (chart_part (shown ward.now) poll.now stages.now) result }
 {
     if stages.is_empty() {
-        let none = Piece::Text("<h2>Stages</h2>\n<p>No stage is done yet.</p>");
+        return Ok(());
+    }
+    write_chart(sink, ward, scale_of(ward.seats, poll, stages), stages)
+}
+
+/// Writes the stages as tables.
+fn write_stages_part<W: Sink>(sink: &mut W, ward: &Ward, stages: &[Stage]) -> Result<(), Broken>
+    requires { W.failed sink.old < 2 ^ 64 - 1 }
+    ensures { Writes W.taken W.failed sink.old sink.new (stages_part (shown ward.now) stages.now) result }
+{
+    if stages.is_empty() {
+        let none = Piece::Text("</div>\n</div>\n<h2>Stages</h2>\n<p>No stage is done yet.</p>");
         return write_line(sink, &[none]);
     }
-    write_chart(sink, ward, scale_of(ward.seats, poll, stages), stages)?;
-    write_line(sink, &[Piece::Text("<h2>Stages</h2>")])?;
+    write_line(sink, &[Piece::Text("</div>\n</div>\n<h2>Stages</h2>")])?;
     write_tables(sink, ward, stages)
 }
 
-/// Writes what the result of a ward is based on: its papers, the lots and the stages.
+/// Writes what the result of a ward is based on: the chart, its papers, the ties and lots, and the stages.
 fn write_grounds<W: Sink>(
     sink: &mut W,
     ward: &Ward,
@@ -210,14 +234,16 @@ fn write_grounds<W: Sink>(
     let Some(poll) = ward.poll else {
         return write_uncontested(sink, ward.seats);
     };
+    write_chart_part(sink, ward, &poll, stages)?;
     write_papers_table(sink, ward.seats, &poll)?;
+    write_ties(sink, ward, stages)?;
     write_lots(sink, ward, stages, lots)?;
-    write_stages_part(sink, ward, &poll, stages)
+    write_stages_part(sink, ward, stages)
 }
 
 // ---- the foot
 
-/// Writes the ward and its elected candidates, with lines below them for the date and three signatures.
+/// Writes the ward, its elected candidates and its empty seats, with lines below them for the date and three signatures.
 fn write_signatures<W: Sink>(sink: &mut W, ward: &Ward, stages: &[Stage]) -> Result<(), Broken>
     requires { W.failed sink.old < 2 ^ 64 - 1 }
     ensures { Writes W.taken W.failed sink.old sink.new (signatures (shown ward.now) stages.now) result }
@@ -229,6 +255,7 @@ fn write_signatures<W: Sink>(sink: &mut W, ward: &Ward, stages: &[Stage]) -> Res
     ];
     write_line(sink, &opening)?;
     write_elected_items(sink, ward, stages)?;
+    write_empty_seats(sink, left_in(ward, stages))?;
     write_text(
         sink,
         "</ul>\n<h2>Signed</h2>\n<p>Date</p>\n<p>Returning officer</p>\n<p>First witness</p>\n<p>Second witness</p>\n</div>\n</body>\n</html>\n",
@@ -251,9 +278,9 @@ fn write_foot<W: Sink>(
     write_text(sink, "</body>\n</html>\n")
 }
 
-/// Writes the page of a ward, as one HTML file. It shows the title, the elected candidates, the papers, the lots drawn (each a stage
-/// and a candidate), and the stages both as a chart and as tables; if the ward is declared, it also has lines for signatures. An
-/// empty title is omitted. For an uncontested ward, stages and lots aren't read.
+/// Writes the page of a ward, as one HTML file. It shows the title, the elected candidates, a chart of their votes, the papers, the
+/// ties that earlier stages settled, the lots drawn (each a stage and a candidate), and tables of the stages; if the ward is
+/// declared, it also has lines for signatures. An empty title is omitted. For an uncontested ward, stages and lots aren't read.
 ///
 /// Allocates nothing. `Broken` only if the sink fails; it has then accepted a prefix of the page, and its failure count is one
 /// higher.

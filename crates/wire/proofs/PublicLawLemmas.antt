@@ -1,8 +1,8 @@
 -- What is shown in public depends only on the wards and on the elections of the sealed ones.
-use Rattle.std.proofs.Common.{◌≡◌, ◌∙◌, ◌&&◌, ◌==◌, Bool, true, false, ℕ, List, [], ◌∷◌, Option, Some, None, Result, Ok, Err, ap, map, refl, sym}
+use Rattle.std.proofs.Common.{◌≡◌, ◌∙◌, ◌&&◌, ◌==◌, Bool, true, false, ℕ, nat_lt, List, [], ◌∷◌, ◌++◌, Option, Some, None, Result, Ok, Err, ap, map, refl, sym}
 use Rattle.std.specs.Prelude.{find, if◌then◌else◌, is_some, length}
 use Rattle.std.specs.Ordering.{is_eq}
-use Rattle.std.specs.List.{All, list_all}
+use Rattle.std.specs.List.{All, filter, flat_map, list_all}
 use Rattle.std.proofs.lemmas.Bool.{eqb-true}
 use Rattle.std.proofs.lemmas.List.Elements.{All-cons, All-head, All-nil, All-tail}
 use Rattle.register.specs.Elections.{ElectionEntry, elected_of, election_of, is_counted, is_counted_right, is_declared, is_uncounted}
@@ -14,9 +14,10 @@ use Rattle.register.specs.declared.phase.Phase.{Phase}
 use Rattle.register.specs.declared.phase.Phase.TheVariants.{Nominations, Keying, Sealed, Declared}
 use Rattle.register.specs.declared.refusal.Reason.{Reason}
 use Rattle.register.specs.declared.refusal.Reason.TheVariants.{WrongPhase}
-use Rattle.store.specs.Overviews.{ward_view_of, ward_views}
-use Rattle.office.specs.Index.{listed_shown}
-use Rattle.office.specs.Sheets.{result_page_of}
+use Rattle.sheet.specs.Index.{ListedEntry, index_row}
+use Rattle.store.specs.Overviews.{ward_view_of}
+use Rattle.office.specs.Index.{is_among_elected, listed_shown, standing_in}
+use Rattle.office.specs.Sheets.{candidate_shown, result_page_of}
 use Rattle.wire.specs.PublicLaws.{AlikeShowAlike, AreAlikeInPublic, ListsUnsealed, RestsOnWards}
 use Rattle.wire.specs.PublicReplies.{page_found, page_told, screen_data, screen_ward_data}
 use Rattle.wire.specs.Responses.{printed_response}
@@ -45,27 +46,49 @@ Told = Option (List ℕ) × List CandidateEntry
 abbrev told_in : Phase → ElectionEntry → Told
 told_in phase e = (if is_declared phase then Some (elected_of e) else None, if is_declared phase then e.candidates else [])
 
-told-same : (phase : Phase) (one other : ElectionEntry) → (is_counted phase ≡ true → one ≡ other) → told_in phase one ≡ told_in phase other
-told-same Nominations one other same = refl
-told-same Keying one other same = refl
-told-same Sealed one other same = refl
-told-same Declared one other same = ap (told_in Declared) (same refl)
+-- whether an election has more candidates than seats
+abbrev contests : WardEntry → ElectionEntry → Bool
+contests w e = nat_lt w.seats (length e.candidates)
 
-ward-same : (s t : OfficeState) (w : WardEntry) → IsSameOnceSealed s t w → listed_shown (ward_view_of t w) ≡ listed_shown (ward_view_of s w)
-ward-same s t w same =
-    ap (λ (told : Told). listed_shown (record { ward = w; status = status_of s w; elected = told.0; candidates = told.1 })) (told-same w.phase (election_of t w) (election_of s w) same)
+-- a ward's entry in the list, given its phase, whether it is contested, and what is told of its count
+abbrev listed_by : WardEntry → Phase → Bool → Told → ListedEntry
+listed_by w phase contested told =
+    record {
+      number = w.number;
+      name = w.name;
+      seats = w.seats;
+      standing = standing_in phase;
+      is_contested = contested;
+      elected = map candidate_shown (filter (is_among_elected told.0) told.1);
+    }
 
-both-same : {X : Type 0} (x y : X) (xs ys : List X) → x ≡ y → xs ≡ ys → x ∷ xs ≡ y ∷ ys
-both-same {X = X} x y xs ys first rest = ap (λ (z : X). z ∷ xs) first ∙ ap (λ (zs : List X). y ∷ zs) rest
+abbrev row_by : WardEntry → Phase → ElectionEntry → List ℕ
+row_by w phase e = index_row (listed_by w phase (contests w e) (told_in phase e))
 
-all-listed : (s t : OfficeState) (wards : List WardEntry) → All (IsSameOnceSealed s t) wards → map listed_shown (map (ward_view_of t) wards) ≡ map listed_shown (map (ward_view_of s) wards)
-all-listed s t [] same = refl
-all-listed s t (w ∷ wards) same =
-    both-same (listed_shown (ward_view_of t w)) (listed_shown (ward_view_of s w)) (map listed_shown (map (ward_view_of t) wards)) (map listed_shown (map (ward_view_of s) wards))
-    (ward-same s t w (All-head (IsSameOnceSealed s t) w wards same)) (all-listed s t wards (All-tail (IsSameOnceSealed s t) w wards same))
+row-by : (w : WardEntry) (phase : Phase) (one other : ElectionEntry) → (is_counted phase ≡ true → one ≡ other) → row_by w phase one ≡ row_by w phase other
+row-by w Nominations one other same = refl
+row-by w Keying one other same = refl
+row-by w Sealed one other same = ap (row_by w Sealed) (same refl)
+row-by w Declared one other same = ap (row_by w Declared) (same refl)
 
-views-listed : (s t : OfficeState) → AreAlikeInPublic s t → map listed_shown (ward_views t) ≡ map listed_shown (ward_views s)
-views-listed s t alike = ap (λ (wards : List WardEntry). map listed_shown (map (ward_view_of t) wards)) alike.wards ∙ all-listed s t s.wards alike.sealed
+row-same : (s t : OfficeState) (w : WardEntry) → IsSameOnceSealed s t w → index_row (listed_shown (ward_view_of t w)) ≡ index_row (listed_shown (ward_view_of s w))
+row-same s t w same = row-by w w.phase (election_of t w) (election_of s w) same
+
+both-rows : (x y xs ys : List ℕ) → x ≡ y → xs ≡ ys → x ++ xs ≡ y ++ ys
+both-rows x y xs ys first rest = ap (λ (z : List ℕ). z ++ xs) first ∙ ap (λ (zs : List ℕ). y ++ zs) rest
+
+-- the rows of the page of all wards
+abbrev rows_of : OfficeState → List WardEntry → List ℕ
+rows_of s wards = flat_map index_row (map listed_shown (map (ward_view_of s) wards))
+
+all-rows : (s t : OfficeState) (wards : List WardEntry) → All (IsSameOnceSealed s t) wards → rows_of t wards ≡ rows_of s wards
+all-rows s t [] same = refl
+all-rows s t (w ∷ wards) same =
+    both-rows (index_row (listed_shown (ward_view_of t w))) (index_row (listed_shown (ward_view_of s w))) (rows_of t wards) (rows_of s wards)
+    (row-same s t w (All-head (IsSameOnceSealed s t) w wards same)) (all-rows s t wards (All-tail (IsSameOnceSealed s t) w wards same))
+
+rows-alike : (s t : OfficeState) → AreAlikeInPublic s t → rows_of t t.wards ≡ rows_of s s.wards
+rows-alike s t alike = ap (λ (wards : List WardEntry). rows_of t wards) alike.wards ∙ all-rows s t s.wards alike.sealed
 
 -- the page of a ward
 abbrev page_once_sealed : List ℕ → Bool → ElectionEntry → Result (List ℕ) Reason
@@ -98,7 +121,7 @@ page-alike title ward s t alike = by (is_ward_number ward) refl
     by false is = rw is refl
 
 pub AlikeShowAlike-all : AlikeShowAlike
-AlikeShowAlike-all its Index s t alike = rw (views-listed s t alike) refl
+AlikeShowAlike-all its Index s t alike = rw (rows-alike s t alike) refl
 AlikeShowAlike-all its Screen s t alike = refl
 AlikeShowAlike-all its Wards s t alike =
     ap data_response (RestsOnWards-all its.title t ∙ ap (screen_data its.title) alike.wards ∙ sym (RestsOnWards-all its.title s))

@@ -9,7 +9,7 @@ use Rattle.desk.specs.Records.{IsRecordOf}
 use Rattle.desk.proofs.CauseLemmas.{since}
 use Rattle.desk.proofs.CourseLemmas.{few_answered, nothing_more, replied_after}
 use Rattle.desk.proofs.PageLemmas.{fronted_status, shown_last, whole_more}
-use Rattle.desk.proofs.RecordLemmas.{recorded_all, recorded_end, recorded_last}
+use Rattle.desk.proofs.RecordLemmas.{recorded_all, recorded_end, recorded_last, stays_itself, stays_then}
 use Rattle.desk.proofs.StageLemmas.{none_counted, page_under, stage_last, stage_more, stage_since, stages_all}
 use Rattle.desk.proofs.TellingLemmas.{goes_after_zero, nothing_told, shown_else, shown_whole, shown_zero, told_all}
 use Rattle.desk.proofs.counting.count_stages.Goals as goal
@@ -19,6 +19,7 @@ loop-request-init g c = record {
   keeps_connection = connection_itself (state g.S.Store c.args.office.now.held);
   clean = λ clean. clean;
   same = refl;
+  untouched = stays_itself g.R.Recorder.failed c.args.recorder.now (state g.S.Store c.args.office.now.held);
   so_far = record {
     said = _;
     shown = nothing_told _;
@@ -45,6 +46,8 @@ loop-request-preserved g c =
       keeps_connection = connection_then first mid next c.stage_of-outcome.ensures.clean c.loop-request.invariant.keeps_connection c.stage_of-outcome.ensures.keeps_connection;
       clean = λ clean. c.loop-request.invariant.clean (c.stage_of-outcome.ensures.clean clean);
       same = c.stage_of-outcome.ensures.same ∙ c.loop-request.invariant.same;
+      untouched = stays_then g.R.Recorder.failed c.args.recorder.now c.loop-request.recorder c.stage_of-outcome.new.recorder first mid next c.loop-request.invariant.untouched
+          c.stage_of-outcome.ensures.untouched;
       so_far = record {
         said = below so_far.said (fronted line page);
         shown = rw zero at (whole_more _ _ _ so_far.said (fronted line page) 0 c.tell-status.result so_far.shown
@@ -196,3 +199,11 @@ returns-clause-counted g c =
                 (replied_after keep c.args.line (page_under id) s so.0.front so_far.said so.0.end so.0.replied) before.0 before.1,
           );
     }
+
+pub returns-then-status-ne0-clause-untouched : goal.returns-then-status-ne0-clause-untouched
+returns-then-status-ne0-clause-untouched g c = stays_then g.R.Recorder.failed c.args.recorder.now c.loop-request.recorder c.stage_of-outcome.new.recorder (state g.S.Store c.args.office.now.held)
+    (state g.S.Store c.loop-request.office.held) (state g.S.Store c.stage_of-outcome.new.office.held) c.loop-request.invariant.untouched c.stage_of-outcome.ensures.untouched
+
+pub returns-then-not-more-clause-untouched : goal.returns-then-not-more-clause-untouched
+returns-then-not-more-clause-untouched g c = stays_then g.R.Recorder.failed c.args.recorder.now c.loop-request.recorder c.stage_of-outcome.new.recorder (state g.S.Store c.args.office.now.held)
+    (state g.S.Store c.loop-request.office.held) (state g.S.Store c.stage_of-outcome.new.office.held) c.loop-request.invariant.untouched c.stage_of-outcome.ensures.untouched

@@ -7,7 +7,7 @@ use Rattle.store.specs.StateTables.{KeepsConnection}
 use Rattle.office.specs.Answers.{WhenOpenAt}
 use Rattle.desk.specs.Orders.{sent_as}
 use Rattle.desk.specs.Pages.{outputs_of}
-use Rattle.desk.specs.Records.{IsRecordOf}
+use Rattle.desk.specs.Records.{IsRecordOf, StaysOnceFailed}
 use Rattle.desk.specs.Requests.{advances, most_advances}
 use Rattle.desk.proofs.StageLemmas.{CountedSo}
 use Rattle.desk.proofs.TellingLemmas.{ToldSo}
@@ -18,6 +18,7 @@ invariant-loop-request g l = record {
   keeps_connection : KeepsConnection (state g.S.Store l.initial.office.held) (state g.S.Store l.office.held);
   clean : HasCleanDisk (state g.S.Store l.office.held) → HasCleanDisk (state g.S.Store l.initial.office.held);
   same : g.R.Recorder.records l.recorder ≡ g.R.Recorder.records l.initial.recorder;
+  untouched : StaysOnceFailed g.R.Recorder.failed l.initial.recorder l.recorder (state g.S.Store l.initial.office.held) (state g.S.Store l.office.held);
   so_far : ToldSo (outputs_of g.O.Sink.taken g.O.Sink.failed g.E.Sink.taken g.E.Sink.failed l.initial.out l.initial.err)
       (outputs_of g.O.Sink.taken g.O.Sink.failed g.E.Sink.taken g.E.Sink.failed l.out l.err) 0
       (λ said. WhenOpenAt (state g.S.Store) l.initial.office l.office

@@ -6,7 +6,7 @@ use Rattle.register.specs.Machine.{step_of}
 use Rattle.desk.specs.Pages.{failed, page_counted}
 use Rattle.desk.specs.declared.lines.Failure.TheVariants.{SecondRecord}
 use Rattle.desk.proofs.CourseLemmas.{plain_answer, unrecorded_answer}
-use Rattle.desk.proofs.RecordLemmas.{again_stays, done_accepted, none_recorded, one_recorded, one_unrecorded, refused_stays, still_recorded}
+use Rattle.desk.proofs.RecordLemmas.{again_stays, done_accepted, none_recorded, one_recorded, one_unrecorded, refused_stays, stays_itself, stays_unfailed, still_recorded}
 use Rattle.desk.proofs.StageLemmas.{no_is_refused, tells_no}
 use Rattle.desk.proofs.counting.stage_of.Goals as goal
 
@@ -95,3 +95,21 @@ returns-in-Err-clause-told g c = λ clean is_open s at.
       ),
       λ fine. none_recorded s (r ∷ []) (g.R.Recorder.found c.args.recorder.now) (g.R.Recorder.failed c.args.recorder.now) fine,
     )
+
+pub returns-then-has_failed-clause-untouched : goal.returns-then-has_failed-clause-untouched
+returns-then-has_failed-clause-untouched g c = stays_itself g.R.Recorder.failed c.args.recorder.now (state g.S.Store c.args.office.now.held)
+
+pub returns-in-Ok-clause-untouched : goal.returns-in-Ok-clause-untouched
+returns-in-Ok-clause-untouched g c = stays_unfailed g.R.Recorder.failed c.args.recorder.now _ _ _ _ c.has_failed.ensures.value c.if-has_failed.false
+
+pub returns-in-Err-record-clause-untouched : goal.returns-in-Err-record-clause-untouched
+returns-in-Err-record-clause-untouched g c = stays_unfailed g.R.Recorder.failed c.args.recorder.now _ _ _ _ c.has_failed.ensures.value c.if-has_failed.false
+
+pub returns-in-Ok-Kept-clause-untouched : goal.returns-in-Ok-Kept-clause-untouched
+returns-in-Ok-Kept-clause-untouched g c = stays_unfailed g.R.Recorder.failed c.args.recorder.now _ _ _ _ c.has_failed.ensures.value c.if-has_failed.false
+
+pub returns-in-Ok-Refused-clause-untouched : goal.returns-in-Ok-Refused-clause-untouched
+returns-in-Ok-Refused-clause-untouched g c = stays_unfailed g.R.Recorder.failed c.args.recorder.now _ _ _ _ c.has_failed.ensures.value c.if-has_failed.false
+
+pub returns-in-Err-clause-untouched : goal.returns-in-Err-clause-untouched
+returns-in-Err-clause-untouched g c = stays_unfailed g.R.Recorder.failed c.args.recorder.now _ _ _ _ c.has_failed.ensures.value c.if-has_failed.false

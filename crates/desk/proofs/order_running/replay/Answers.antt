@@ -5,7 +5,7 @@ use Rattle.desk.specs.Lexing.{line_entry, typed_line_entry}
 use Rattle.desk.specs.Pages.{page_of, script_page}
 use Rattle.desk.specs.declared.scripts.ScriptFault.TheVariants as script
 use Rattle.desk.proofs.PageLemmas.{error_shown}
-use Rattle.desk.proofs.RecordLemmas.{none_recorded}
+use Rattle.desk.proofs.RecordLemmas.{none_recorded, stays_itself}
 use Rattle.desk.proofs.ScriptEnds.{holds_lines, replay_of, replay_unread}
 use Rattle.desk.proofs.order_running.replay.Goals as goal
 
@@ -65,3 +65,9 @@ returns-clause-ran g c =
         none_recorded s [] (g.R.Recorder.found c.args.recorder.now) (g.R.Recorder.failed c.args.recorder.now),
       );
     }
+
+pub returns-in-Err-clause-untouched : goal.returns-in-Err-clause-untouched
+returns-in-Err-clause-untouched g c = stays_itself g.R.Recorder.failed c.args.recorder.now (state g.S.Store c.args.office.now.held)
+
+pub returns-clause-untouched : goal.returns-clause-untouched
+returns-clause-untouched g c = stays_itself g.R.Recorder.failed c.args.recorder.now (state g.S.Store c.args.office.now.held)

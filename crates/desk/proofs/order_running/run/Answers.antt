@@ -9,7 +9,7 @@ use Rattle.desk.specs.Parts.{IsOver}
 use Rattle.desk.specs.declared.lines.Failure.TheVariants.{Office}
 use Rattle.desk.proofs.CauseLemmas.{since}
 use Rattle.desk.proofs.CourseLemmas.{sent_turned, unsent_told}
-use Rattle.desk.proofs.RecordLemmas.{none_recorded}
+use Rattle.desk.proofs.RecordLemmas.{none_recorded, stays_after_reading, stays_itself, stays_reading}
 use Rattle.desk.proofs.order_running.run.Goals as goal
 
 pub returns-in-Send-clause-ran : goal.returns-in-Send-clause-ran
@@ -327,3 +327,47 @@ returns-clause-ran g c =
         none_recorded s [] (g.R.Recorder.found c.args.recorder.now) (g.R.Recorder.failed c.args.recorder.now),
       );
     }
+
+pub returns-in-ImportCandidates-clause-untouched : goal.returns-in-ImportCandidates-clause-untouched
+returns-in-ImportCandidates-clause-untouched g c = stays_itself g.R.Recorder.failed c.args.recorder.now (state g.S.Store c.args.office.now.held)
+
+pub returns-in-ImportBatches-clause-untouched : goal.returns-in-ImportBatches-clause-untouched
+returns-in-ImportBatches-clause-untouched g c = stays_itself g.R.Recorder.failed c.args.recorder.now (state g.S.Store c.args.office.now.held)
+
+pub returns-in-Ok-seal_of-clause-untouched : goal.returns-in-Ok-seal_of-clause-untouched
+returns-in-Ok-seal_of-clause-untouched g c = stays_after_reading g.R.Recorder.failed c.args.recorder.now c.send_all-in-Ok-seal_of.new.recorder (state g.S.Store c.args.office.now.held)
+    (state g.S.Store c.seal_of.new.office.held) (state g.S.Store c.send_all-in-Ok-seal_of.new.office.held) c.seal_of.ensures.same c.send_all-in-Ok-seal_of.ensures.untouched
+
+pub returns-in-SealExpected-clause-untouched : goal.returns-in-SealExpected-clause-untouched
+returns-in-SealExpected-clause-untouched g c = stays_reading g.R.Recorder.failed c.args.recorder.now (state g.S.Store c.args.office.now.held) (state g.S.Store c.seal_of.new.office.held)
+    c.seal_of.ensures.same
+
+pub returns-in-Ok-keying_of-clause-untouched : goal.returns-in-Ok-keying_of-clause-untouched
+returns-in-Ok-keying_of-clause-untouched g c = stays_after_reading g.R.Recorder.failed c.args.recorder.now c.send_all-in-Ok-keying_of.new.recorder (state g.S.Store c.args.office.now.held)
+    (state g.S.Store c.keying_of.new.office.held) (state g.S.Store c.send_all-in-Ok-keying_of.new.office.held) c.keying_of.ensures.same c.send_all-in-Ok-keying_of.ensures.untouched
+
+pub returns-in-ImportKeying-clause-untouched : goal.returns-in-ImportKeying-clause-untouched
+returns-in-ImportKeying-clause-untouched g c = stays_reading g.R.Recorder.failed c.args.recorder.now (state g.S.Store c.args.office.now.held) (state g.S.Store c.keying_of.new.office.held)
+    c.keying_of.ensures.same
+
+pub returns-in-Count-clause-untouched : goal.returns-in-Count-clause-untouched
+returns-in-Count-clause-untouched g c = stays_itself g.R.Recorder.failed c.args.recorder.now (state g.S.Store c.args.office.now.held)
+
+pub returns-in-PrintNext-clause-untouched : goal.returns-in-PrintNext-clause-untouched
+returns-in-PrintNext-clause-untouched g c = stays_reading g.R.Recorder.failed c.args.recorder.now (state g.S.Store c.args.office.now.held) (state g.S.Store c.next_of.new.office.held)
+    c.next_of.ensures.same
+
+pub returns-in-PrintStatus-clause-untouched : goal.returns-in-PrintStatus-clause-untouched
+returns-in-PrintStatus-clause-untouched g c = stays_reading g.R.Recorder.failed c.args.recorder.now (state g.S.Store c.args.office.now.held) (state g.S.Store c.ward_status_of.new.office.held)
+    c.ward_status_of.ensures.same
+
+pub returns-in-Print-clause-untouched : goal.returns-in-Print-clause-untouched
+returns-in-Print-clause-untouched g c = stays_reading g.R.Recorder.failed c.args.recorder.now (state g.S.Store c.args.office.now.held) (state g.S.Store c.text_of.new.office.held)
+    c.text_of.ensures.same
+
+pub returns-in-PrintIndex-clause-untouched : goal.returns-in-PrintIndex-clause-untouched
+returns-in-PrintIndex-clause-untouched g c = stays_reading g.R.Recorder.failed c.args.recorder.now (state g.S.Store c.args.office.now.held) (state g.S.Store c.index_of.new.office.held)
+    c.index_of.ensures.same
+
+pub returns-clause-untouched : goal.returns-clause-untouched
+returns-clause-untouched g c = stays_reading g.R.Recorder.failed c.args.recorder.now (state g.S.Store c.args.office.now.held) (state g.S.Store c.answer_to.new.office.held) c.answer_to.ensures.same

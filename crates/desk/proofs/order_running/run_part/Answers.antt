@@ -1,8 +1,9 @@
 -- Proof that `run_part` meets its contract.
 use Rattle.std.proofs.Common.{◌≡◌, ◌+◌, ◌++◌, [], false, true, inl, inr, refl}
+use Rattle.sqlite.specs.Held.{state}
 use Rattle.desk.specs.Pages.{below, cut_below, cut_note, goes_on}
 use Rattle.desk.proofs.PageLemmas.{error_shown, shown_next}
-use Rattle.desk.proofs.RecordLemmas.{none_recorded, recorded_then}
+use Rattle.desk.proofs.RecordLemmas.{none_recorded, recorded_then, stays_itself}
 use Rattle.desk.proofs.TellingLemmas.{shown_else, shown_whole}
 use Rattle.desk.proofs.order_running.run_part.Goals as goal
 
@@ -45,3 +46,6 @@ returns-clause-sent g c =
                 (g.R.Recorder.failed c.run_steps.new.recorder) refl (λ was. was) (it.3 fine),
           );
     }
+
+pub returns-then-status-ne0-clause-untouched : goal.returns-then-status-ne0-clause-untouched
+returns-then-status-ne0-clause-untouched g c = stays_itself g.R.Recorder.failed c.args.recorder.now (state g.S.Store c.args.office.now.held)

@@ -1,8 +1,9 @@
 -- Proof that `run_script` meets its contract.
 use Rattle.std.proofs.Common.{[], inl, inr, refl}
+use Rattle.sqlite.specs.Held.{state}
 use Rattle.desk.specs.Pages.{script_page}
 use Rattle.desk.proofs.PageLemmas.{error_shown}
-use Rattle.desk.proofs.RecordLemmas.{none_recorded}
+use Rattle.desk.proofs.RecordLemmas.{none_recorded, stays_itself}
 use Rattle.desk.proofs.ScriptEnds.{no_output}
 use Rattle.desk.proofs.order_running.run_script.Goals as goal
 
@@ -32,3 +33,6 @@ returns-in-Err-clause-sent g c =
         none_recorded s [] (g.R.Recorder.found c.args.recorder.now) (g.R.Recorder.failed c.args.recorder.now),
       );
     }
+
+pub returns-in-Err-clause-untouched : goal.returns-in-Err-clause-untouched
+returns-in-Err-clause-untouched g c = stays_itself g.R.Recorder.failed c.args.recorder.now (state g.S.Store c.args.office.now.held)

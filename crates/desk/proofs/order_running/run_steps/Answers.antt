@@ -8,7 +8,7 @@ use Rattle.desk.specs.Records.{IsRecordOf}
 use Rattle.desk.proofs.CauseLemmas.{since}
 use Rattle.desk.proofs.CourseLemmas.{made, none_taken, nothing_more, taken_after, turn_last, turn_more, turns_all}
 use Rattle.desk.proofs.PageLemmas.{shown_last, whole_more}
-use Rattle.desk.proofs.RecordLemmas.{recorded_all, recorded_end, recorded_then}
+use Rattle.desk.proofs.RecordLemmas.{recorded_all, recorded_end, recorded_then, stays_itself, stays_then}
 use Rattle.desk.proofs.TellingLemmas.{nothing_told, shown_goes, shown_stops, shown_whole, stops_by, told_all}
 use Rattle.desk.proofs.order_running.run_steps.Goals as goal
 
@@ -17,6 +17,7 @@ loop-turn-init g c = record {
   keeps_connection = connection_itself (state g.S.Store c.args.office.now.held);
   clean = λ clean. clean;
   same = refl;
+  untouched = stays_itself g.R.Recorder.failed c.args.recorder.now (state g.S.Store c.args.office.now.held);
   so_far = record { said = _; shown = nothing_told _; is = λ clean is_open s at. (none_taken _ _ s _ _ _ (record { is_open = is_open; at = at }), λ fine. (fine, λ was. was)) };
 }
 
@@ -38,6 +39,7 @@ loop-turn-preserved g c =
       keeps_connection = connection_then first mid next c.run-status.ensures.clean c.loop-turn.invariant.keeps_connection c.run-status.ensures.keeps_connection;
       clean = λ clean. c.loop-turn.invariant.clean (c.run-status.ensures.clean clean);
       same = c.run-status.ensures.same ∙ c.loop-turn.invariant.same;
+      untouched = stays_then g.R.Recorder.failed c.args.recorder.now c.loop-turn.recorder c.run-status.new.recorder first mid next c.loop-turn.invariant.untouched c.run-status.ensures.untouched;
       so_far = record {
         said = below so_far.said told.page;
         shown = rw c.combined_status-ends.ensures (whole_more _ _ _ so_far.said told.page c.loop-turn.ends c.run-status.result so_far.shown
@@ -130,3 +132,7 @@ returns-clause-sent g c =
                 (taken_after c.args.keep_going (g.F.Folder.held c.args.folder.now) s (take c.loop-turn.turn-index c.args.turns.now) so.0.own so_far.said so.0.end so.0.taken) before.0 before.1,
           );
     }
+
+pub returns-then-not-goes_on-clause-untouched : goal.returns-then-not-goes_on-clause-untouched
+returns-then-not-goes_on-clause-untouched g c = stays_then g.R.Recorder.failed c.args.recorder.now c.loop-turn.recorder c.run-status.new.recorder (state g.S.Store c.args.office.now.held)
+    (state g.S.Store c.loop-turn.office.held) (state g.S.Store c.run-status.new.office.held) c.loop-turn.invariant.untouched c.run-status.ensures.untouched

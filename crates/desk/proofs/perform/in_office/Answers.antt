@@ -3,6 +3,7 @@ use Rattle.std.proofs.Common.{◌≡◌, ◌∙◌, [], inl, inr, refl, subst, s
 use Rattle.sqlite.specs.State.{HasCleanDisk}
 use Rattle.sqlite.specs.Held.{state}
 use Rattle.store.proofs.KeepLemmas.{reads_connection}
+use Rattle.tables.proofs.ReadLemmas.{only_reads_then}
 use Rattle.desk.specs.Pages.{failed}
 use Rattle.desk.specs.RecordedOrders.{HeadlineRecorded, RecordPair}
 use Rattle.desk.specs.declared.lines.Failure.TheVariants.{Office}
@@ -12,7 +13,7 @@ use Rattle.desk.proofs.CourseLemmas.{done_since}
 use Rattle.desk.proofs.KeptLemmas.{read_leaves}
 use Rattle.desk.proofs.RecordLemmas.{none_recorded}
 use Rattle.desk.proofs.RecordedEnds.{done_recorded}
-use Rattle.desk.proofs.RecordedLemmas.{performed_recorded}
+use Rattle.desk.proofs.RecordedLemmas.{performed_recorded, untouched_record}
 use Rattle.desk.proofs.perform.in_office.Goals as goal
 
 pub returns-in-Ok : goal.returns-in-Ok
@@ -57,6 +58,12 @@ returns-in-Ok g c =
                   it.3,
                 );
             elsewhere = λ db ours rests none. let held = c.in-Ok.ensures.opened opened db ours rests in absurd (none held.0 held.1);
+            record_elsewhere = λ db ours rests none. let held = c.in-Ok.ensures.opened opened db ours rests in absurd (none held.0 held.1);
+            once_failed = λ has.
+                let it = c.follow_recorded-status.ensures.untouched has in (
+                  only_reads_then first mid next c.in-Ok.ensures.reads it.1,
+                  untouched_record recorded g.R.Recorder.found g.R.Recorder.failed c.args.recorder.now c.follow_recorded-status.new.recorder it.0,
+                );
           });
     }
 
@@ -79,5 +86,11 @@ returns-in-Err g c =
             performed_recorded pair (g.F.Folder.held c.args.folder.now) s (InOffice c.args.job.now) told.0 _ _ page c.tell.result old new told.1
             ([], 0, inr (page, told.0, refl, (c.in-Err.fault, refl, c.in-Err.ensures.cause clean db rests s left), leaves), none_recorded s [] found failed);
         elsewhere = λ db ours rests none. ((c.in-Err.fault, refl, (c.in-Err.ensures.told clean db ours rests, c.in-Err.ensures.fails clean db ours rests)), c.in-Err.ensures.reads_too);
+        record_elsewhere = λ db ours rests none.
+            untouched_record (g.R.Recorder.records c.args.recorder.now) g.R.Recorder.found g.R.Recorder.failed c.args.recorder.now c.args.recorder.now refl;
+        once_failed = λ has. (
+          c.in-Err.ensures.reads_too,
+          untouched_record (g.R.Recorder.records c.args.recorder.now) g.R.Recorder.found g.R.Recorder.failed c.args.recorder.now c.args.recorder.now refl,
+        );
       };
     }

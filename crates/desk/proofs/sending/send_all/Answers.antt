@@ -8,7 +8,7 @@ use Rattle.desk.specs.Records.{IsRecordOf}
 use Rattle.desk.proofs.CauseLemmas.{since}
 use Rattle.desk.proofs.CourseLemmas.{answered_since, few_answered, none_sent, nothing_more, replied_after, sent_all, sent_last, sent_more}
 use Rattle.desk.proofs.PageLemmas.{shown_last, whole_more}
-use Rattle.desk.proofs.RecordLemmas.{recorded_all, recorded_end, recorded_last}
+use Rattle.desk.proofs.RecordLemmas.{recorded_all, recorded_end, recorded_last, stays_itself, stays_then}
 use Rattle.desk.proofs.TellingLemmas.{nothing_told, shown_goes, shown_stops, shown_whole, stops_by, told_all}
 use Rattle.desk.proofs.sending.send_all.Goals as goal
 
@@ -17,6 +17,7 @@ loop-request-init g c = record {
   keeps_connection = connection_itself (state g.S.Store c.args.office.now.held);
   clean = λ clean. clean;
   same = refl;
+  untouched = stays_itself g.R.Recorder.failed c.args.recorder.now (state g.S.Store c.args.office.now.held);
   so_far = record { said = _; shown = nothing_told _; is = λ clean is_open s at. (none_sent _ _ _ s _ _ _ (record { is_open = is_open; at = at }), λ fine. (fine, λ was. was)) };
 }
 
@@ -39,6 +40,7 @@ loop-request-preserved g c =
       keeps_connection = connection_then first mid next c.outcome_of.ensures.clean c.loop-request.invariant.keeps_connection c.outcome_of.ensures.keeps_connection;
       clean = λ clean. c.loop-request.invariant.clean (c.outcome_of.ensures.clean clean);
       same = c.outcome_of.ensures.same ∙ c.loop-request.invariant.same;
+      untouched = stays_then g.R.Recorder.failed c.args.recorder.now c.loop-request.recorder c.outcome_of.new.recorder first mid next c.loop-request.invariant.untouched c.outcome_of.ensures.untouched;
       so_far = record {
         said = below so_far.said (fronted line page);
         shown = rw c.combined_status-ends.ensures (whole_more _ _ _ so_far.said (fronted line page) c.loop-request.ends c.tell-status.result so_far.shown
@@ -131,3 +133,7 @@ returns-clause-sent g c =
                 (replied_after c.args.keep_going c.args.line page_for s (take i rs) so_far.said so.0.end so.0.replied) before.0 before.1,
           );
     }
+
+pub returns-then-not-goes_on-clause-untouched : goal.returns-then-not-goes_on-clause-untouched
+returns-then-not-goes_on-clause-untouched g c = stays_then g.R.Recorder.failed c.args.recorder.now c.loop-request.recorder c.outcome_of.new.recorder (state g.S.Store c.args.office.now.held)
+    (state g.S.Store c.loop-request.office.held) (state g.S.Store c.outcome_of.new.office.held) c.loop-request.invariant.untouched c.outcome_of.ensures.untouched

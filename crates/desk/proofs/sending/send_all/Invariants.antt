@@ -5,7 +5,7 @@ use Rattle.sqlite.specs.Held.{state}
 use Rattle.store.specs.StateTables.{KeepsConnection}
 use Rattle.office.specs.Answers.{WhenOpenAt}
 use Rattle.desk.specs.Pages.{outputs_of, page_for}
-use Rattle.desk.specs.Records.{IsRecordOf}
+use Rattle.desk.specs.Records.{IsRecordOf, StaysOnceFailed}
 use Rattle.desk.proofs.CourseLemmas.{SentSo}
 use Rattle.desk.proofs.TellingLemmas.{ToldSo}
 use Rattle.desk.proofs.sending.send_all.Given as goal
@@ -15,6 +15,7 @@ invariant-loop-request g l = record {
   keeps_connection : KeepsConnection (state g.S.Store l.initial.office.held) (state g.S.Store l.office.held);
   clean : HasCleanDisk (state g.S.Store l.office.held) → HasCleanDisk (state g.S.Store l.initial.office.held);
   same : g.R.Recorder.records l.recorder ≡ g.R.Recorder.records l.initial.recorder;
+  untouched : StaysOnceFailed g.R.Recorder.failed l.initial.recorder l.recorder (state g.S.Store l.initial.office.held) (state g.S.Store l.office.held);
   so_far : ToldSo (outputs_of g.O.Sink.taken g.O.Sink.failed g.E.Sink.taken g.E.Sink.failed l.initial.out l.initial.err)
       (outputs_of g.O.Sink.taken g.O.Sink.failed g.E.Sink.taken g.E.Sink.failed l.out l.err) l.ends
       (λ said. WhenOpenAt (state g.S.Store) l.initial.office l.office

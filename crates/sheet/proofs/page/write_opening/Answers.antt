@@ -2,4 +2,4 @@
 use Rattle.sheet.proofs.page.write_opening.Goals as goal
 
 pub returns : goal.returns
-returns g c = rw (c.from.ensures, c.style.ensures) at c.write_line.ensures
+returns g c = rw (c.from.ensures, c.title_mark.ensures, c.style.ensures) at c.write_line.ensures

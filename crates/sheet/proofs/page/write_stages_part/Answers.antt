@@ -8,21 +8,14 @@ returns-then-is_empty g c =
     let e : (length c.args.stages.now == 0) ≡ true = sym c.is_empty.ensures ∙ c.if-is_empty.true in
     rw e c.write_line.ensures
 
-pub returns-in_err-write_chart : goal.returns-in_err-write_chart
-returns-in_err-write_chart g c =
-    let e : (length c.args.stages.now == 0) ≡ false = sym c.is_empty.ensures ∙ c.if-is_empty.false in
-    let r = c.from_residual.result in
-    let failure = c.from_residual.ensures.0 in
-    rw e (Writes-front _ r failure (Writes-front _ r failure (Writes-failed r failure (rw c.scale_of.ensures at c.in_err-write_chart.ensures))))
-
 pub returns-in_err-write_line : goal.returns-in_err-write_line
 returns-in_err-write_line g c =
     let e : (length c.args.stages.now == 0) ≡ false = sym c.is_empty.ensures ∙ c.if-is_empty.false in
-    let r = c.from_residual-in_err-write_line.result in
-    let failure = c.from_residual-in_err-write_line.ensures.0 in
-    rw e (Writes-front _ r failure (Writes-failed r failure (Writes-then _ (rw c.scale_of.ensures at c.in_ok-write_chart.ensures) c.in_err-write_line.ensures)))
+    let r = c.from_residual.result in
+    let failure = c.from_residual.ensures.0 in
+    rw e (Writes-front _ r failure (Writes-failed r failure c.in_err-write_line.ensures))
 
 pub returns : goal.returns
 returns g c =
     let e : (length c.args.stages.now == 0) ≡ false = sym c.is_empty.ensures ∙ c.if-is_empty.false in
-    rw e (Writes-then _ (Writes-then _ (rw c.scale_of.ensures at c.in_ok-write_chart.ensures) c.in_ok-write_line.ensures) c.write_tables.ensures)
+    rw e (Writes-then _ c.in_ok-write_line.ensures c.write_tables.ensures)
