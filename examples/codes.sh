@@ -101,6 +101,7 @@ at_console() {
     order '{"files":{},"words":["copy","evening.db"]}'
     order '{"files":{},"words":["copy","evening.db"]}'
     order '{"files":{},"words":["copy","../evening.db"]}'
+    order '{"files":{},"words":["record"]}'
     order '{"words":["wards"]}'
     ask /office/orders -u office:h4dn-p3cs-kf7m-2wxt
     ask /office/nothing -u office:h4dn-p3cs-kf7m-2wxt

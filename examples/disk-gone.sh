@@ -9,16 +9,30 @@ port=$((20000 + RANDOM % 20000))
 server=
 trap '[[ -z $server ]] || kill -KILL "$server" 2>/dev/null; rm -rf "$folder"' EXIT
 
-# Serves an office with a new record on the stick, and waits until the socket for its orders is there.
+# Serves an office with a new record on the stick, for a number of clients if one is given. Waits until the note that names the record is
+# there, and shows what was said up to then.
 serve_recorded() {
-    echo "\$ count-office $1 serve PORT --second stick/$2"
-    (cd "$folder" && exec "$office" "$1" serve "$port" --second "stick/$2" 2>said) &
+    echo "\$ count-office $1 serve PORT${3:+ $3} --second stick/$2"
+    (cd "$folder" && exec "$office" "$1" serve "$port" ${3:+"$3"} --second "stick/$2" 2>said) &
     server=$!
     for _ in {1..400}; do
-        if [[ -e $folder/$1-serve ]]; then return 0; fi
+        if [[ -e $folder/$1-recording ]]; then
+            sed 's/^/error: /' "$folder/said"
+            return 0
+        fi
         sleep 0.05
     done
-    echo "nothing is at $1-serve"
+    echo "nothing is at $1-recording"
+}
+
+# Plays an order, and hides the time and the folder in what it prints.
+play_anywhere() {
+    play "$@" | sed -E "s#$(readlink -f "$folder")#FOLDER#g; s/[0-9]{2}:[0-9]{2}:[0-9]{2} UTC/TIME UTC/"
+}
+
+# Shows what the note of a record next to an office says.
+show_note() {
+    if [[ -e $folder/$1-recording ]]; then echo "$1 has a note"; else echo "$1 has no note"; fi
 }
 
 # Shows a record of the stick without its times.
@@ -114,14 +128,41 @@ printf '%s\n' ward,candidate,name 7,1,Ann 7,2,Bob 7,3,Cy >"$folder/names.csv"
     play evening.db batch 12 7 2 4 9 --id b1
     play evening.db key 4 12 1 1,2, 1,,2 --id k1
     play evening.db key 4 12 1 1,2, 1,,2 --id k1 --second stick/kept.script
+    # both hold the same, also while the office is served; a copy says where the record is
+    play evening.db second stick/evening.script
+    play evening.db second stick/kept.script
+    play evening.db second stick/missing.script
+    play_anywhere evening.db copy copied.db
     kill -KILL "$server" && { wait "$server" || true; } 2>/dev/null
     server=
+    # what is done now isn't in the record, and says so, unless it goes there
+    play_anywhere evening.db wards
+    play_anywhere evening.db batch 13 7 2 4 9 --id b2 --second stick/evening.script
+    show_note evening.db
     rm "$folder"/evening.db*
     show_record evening.script
     play anew.db init
     play anew.db replay stick/evening.script --cut
     play anew.db second stick/evening.script
-    # that record is there already, so serving begins another
+    # that record is there already, so serving begins another; once that ends by itself, there is no note
     play anew.db serve 8080 --second stick/evening.script
+    serve_recorded anew.db anew.script 1
+    show_note anew.db
+    (exec 3<>"/dev/tcp/127.0.0.1/$port" && printf 'GET / HTTP/1.0\r\n\r\n' >&3 && cat <&3) >/dev/null || true
+    wait "$server"
+    server=
+    show_note anew.db
+    play anew.db wards
+
+    # a name that a file of an office may have; and a record that is taken away while the office is served: nothing more is acknowledged
+    play anew.db serve 8080 --second anew.db-journal
+    serve_recorded anew.db taken.script
+    play anew.db ward 8 1 Quay --id w8
+    mv "$folder/stick/taken.script" "$folder/stick/away.script"
+    play anew.db ward 9 1 Pier --id w9
+    play anew.db ward 9 1 Pier --id w9
+    kill -KILL "$server" && { wait "$server" || true; } 2>/dev/null
+    server=
+    play anew.db second stick/away.script
 } >"$folder/played"
 compare disk-gone

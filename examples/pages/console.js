@@ -11,10 +11,21 @@ const TAKEN = {clerks: [{clerk: 4, keyed: true}, {clerk: 9, keyed: true}], doubt
 const batch = (number, twin = 0) => ({...TAKEN, batch: number, twin});
 
 // A window that shows the console of an office with one ward. Orders are answered in turn, with what each prints.
+const RECORD_ASKED = JSON.stringify({files: {}, words: ['record']});
+
 class Console extends Window {
   constructor(page, office, {storage} = {}) {
-    const all = {ward: {}, batches: [], doubtful: [], receipts: [], next: {step: 'seal'}, orders: [], ...office};
+    const all = {ward: {}, batches: [], doubtful: [], receipts: [], next: {step: 'seal'}, orders: [], record: 'no second record\n', ...office};
     super(page, all, {url: 'http://127.0.0.1:8080/office/', storage});
+    this.looks = 0;
+  }
+
+  // The console asks for the second record in between; only `looks` counts that.
+  async fetched(target, options) {
+    if (options.body !== RECORD_ASKED) return super.fetched(target, options);
+    this.looks += 1;
+    const says = {errors: '', output: this.office.record, status: 0};
+    return {status: 200, text: async () => JSON.stringify(says)};
   }
 
   answer(method, target) {
@@ -92,6 +103,8 @@ const goingOver = {open: async (page, ...orders) => {
 const NOT_MENDED = 'not mended: 0 orders can be replaced, not just one: ward 7\n';
 const MENDED = ['mend', 'town-5.db', '--with=judge --id ID 13 6 accept:,1', '--without=4:v2'];
 
+const RECORD = 'second record: /media/stick/town.script, last line 21:04:07 UTC\n';
+
 const PLAYS = {
   'a ward is sealed once read back': play(Console, [{batches: [batch(12), batch(15)], orders: [['ward 7 sealed\n']]}], async (window) => {
     await window.pass(3, {steps: /All batches agreed, all doubtful papers judged: seal the ward/}).click('tab count');
@@ -100,6 +113,17 @@ const PLAYS = {
     await window.click('ask-no', {question: '', sent: []});
     await window.order('seal', {sent: [['seal', '--id', 'ID', '--', '7']], result: /Done: seal ward 7/});
     assert.deepEqual(window.office.orders, []);
+  }),
+  'the head says where the second record is, and warns': play(Console, [{record: RECORD}], async (window) => {
+    window.sees({recorded: 'Second record: /media/stick/town.script, last line 21:04:07 UTC.', 'recorded className': ''});
+    assert.equal(window.looks, 1);
+    window.office.record = `${RECORD}warning: it is on the same disk as the office\nit failed\n`;
+    await window.pass(30, {'recorded className': ''});
+    await window.pass(40, {recorded: /21:04:07 UTC\. Warning: it is on the same disk as the office\. It failed\.$/, 'recorded className': 'down'});
+    await window.click('tab journal', {copies: /No copy made from this browser yet.*Second record: \/media.*It failed\./});
+    window.office.record = 'no second record\n';
+    await window.pass(60, {recorded: 'No second record.', 'recorded className': ''});
+    assert.ok(window.looks <= 4, 'it is asked for too often');
   }),
   'batches with the same papers are named before their ward is sealed': play(Console, [
     {batches: [batch(12, 15), batch(15, 12), batch(16), batch(18, 12), batch(20, 31)], ward: {batches: 5, taken: 5}}], async (window) => {
@@ -215,6 +239,8 @@ const PLANTED = {
   'the switch has other words': ['[\'switch\', next, ...options]', '[\'switch\', next, ...options.slice(1)]'],
   'the form of another ward is downloaded': ['\'text/html\', \'forms\', form, ward)', '\'text/html\', \'forms\', form, 1)'],
   'covers are offered without batches': ['batches.length ? formButton(', 'true ? formButton('],
+  'the second record is looked at once': ['Date.now() - recording.at < RECORD_AFTER', 'recording.lines.length'],
+  'a warning about the second record looks like any line': ['recording.lines.length > 1 ?', 'recording.lines.length > 9 ?'],
   'of three equal batches two are named': ['[...groups.get(first) ?? [], batch, twin]', '[batch, twin]'],
 };
 

@@ -22,7 +22,8 @@ const BODY: &str = r#"
 <header id="top">
 <div class="topbar"><h1>Count office</h1>
 <p id="health" role="status"></p>
-<p id="copied"></p></div>
+<p id="copied"></p>
+<p id="recorded"></p></div>
 <nav id="tabs" aria-label="Sections"></nav>
 <noscript><p class="warning">This console needs JavaScript. Turn JavaScript on for this address, then reload the page.</p></noscript>
 <p id="unkept" class="warning" role="alert" hidden>This browser can&rsquo;t store data for this page.

@@ -107,7 +107,7 @@ body { padding: 0 .5rem 2rem; }
 .printing > #paper { display: block; }
 #paper h1 { font-size: 1.2rem; white-space: normal; }
 html { font-size: 12pt; }
-.acts, nav, footer, #health, #copied { display: none; }
+.acts, nav, footer, #health, #copied, #recorded { display: none; }
 #top { position: static; }
 }
 

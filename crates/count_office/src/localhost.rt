@@ -12,8 +12,9 @@ use crate::codes_file::read_codes;
 use crate::file_watch::FileWatch;
 use crate::host::{Host, Opened};
 use crate::moved_note::has_note;
-use crate::notices::tell_serving;
+use crate::notices::{tell_no_record_note, tell_recording, tell_serving};
 use crate::order_socket::{OrderSocket, reason_of, reserved_descriptors};
+use crate::record_note::note_recording;
 use crate::served_file::LocalFile;
 use codes::{Codes, CodesError};
 use desk::Failure;
@@ -38,11 +39,12 @@ pub struct Localhost<'a> {
 
 /// Whether the network of an office has been opened, so that it may have been served. Also what is left of an office that was served and
 /// has moved: whether there was one, and the listeners on its port, which stay open. So no other program gets the port, and clients that
-/// connect meanwhile are served by the new office.
+/// connect meanwhile are served by the new office. And whether the note that an order isn't recorded was looked for.
 #[derive(Drop)]
 pub struct Succession {
     pub is_open: Cell<bool>,
     pub has_moved: Cell<bool>,
+    pub is_noted: Cell<bool>,
     pub listeners: Cell<Option<Loopback>>,
 }
 
@@ -164,6 +166,7 @@ fn open_at<'a>(
         served_file: LocalFile {
             rt,
             file_watch,
+            second: place.second,
             is_moved,
         },
         file: FileNumbers { device, inode },
@@ -196,10 +199,29 @@ impl<'a> Localhost<'a> {
         }
     }
 
-    /// Prints which office is served now, if it took the place of one that was served, and no other has taken its own.
-    fn tell_if_successor(&self, is_moved: bool) {
-        if self.place.is_successor && !is_moved {
+    /// Prints which office is served now, if it took the place of one that was served.
+    fn tell_if_successor(&self) {
+        if self.place.is_successor {
             tell_serving(self.place.rt, self.place.path);
+        }
+    }
+
+    /// Prints in which file the requests are recorded, if there is a second record, and writes the note that says so.
+    fn begin_recording(&self) {
+        let LockedDatabase { rt, found, .. } = self.place;
+        if let Some(record) = self.place.second {
+            tell_recording(rt, found.database(), record);
+            if note_recording(rt, found.database(), record).is_err() {
+                tell_no_record_note(rt, found.database());
+            }
+        }
+    }
+
+    /// Prints what is served now, and where it is recorded, unless another office has taken its place.
+    fn tell_opened(&self, is_moved: bool) {
+        if !is_moved {
+            self.begin_recording();
+            self.tell_if_successor();
         }
     }
 
@@ -242,7 +264,7 @@ impl<'a> Host for Localhost<'a> {
         match &opened {
             Ok(opened) => {
                 self.place.succession.is_open.set(true);
-                self.tell_if_successor(opened.served_file.is_moved.get());
+                self.tell_opened(opened.served_file.is_moved.get());
             }
             Err(_) => {
                 self.clear();

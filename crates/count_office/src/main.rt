@@ -44,6 +44,7 @@ mod file_lock;
 mod moved_note;
 mod notices;
 mod order_run;
+mod path_note;
 mod path_state;
 // an order that is sent to the program that serves the database
 mod order_client;
@@ -61,6 +62,8 @@ mod mends;
 mod new_file;
 mod served_file;
 // an office and a second record of it
+mod record_note;
+mod record_place;
 mod second_file;
 mod second_order;
 mod second_words;
@@ -164,6 +167,7 @@ fn perform_task<S: Alter, O: Sink, E: Sink>(
             let asked = RecordedTask {
                 paths,
                 task,
+                database: place.found.database(),
                 second,
             };
             perform_with_record(asked, conn, out, err)
@@ -328,6 +332,7 @@ fn perform_at_path<'a, O: Sink, E: Sink>(
     let succession = Succession {
         is_open: Cell::new(false),
         has_moved: Cell::new(false),
+        is_noted: Cell::new(false),
         listeners: Cell::new(None),
     };
     let words = given.words.as_slice();

@@ -2,6 +2,8 @@
 //! even if these lines can't be written.
 
 use crate::moved_note::moved_to;
+use crate::record_note::{RECORDING, recorded_in};
+use crate::record_place::{disk_warning, record_words};
 use crate::second_file::SecondFault;
 use desk::RecordFault;
 use std::fs;
@@ -61,10 +63,62 @@ pub fn tell_second_failed(rt: &HostRuntime, path: &str, fault: RecordFault) {
     );
 }
 
-/// Prints in which file the requests that a new office accepts are recorded, after the one that was served has moved.
-pub fn tell_recording(rt: &HostRuntime, path: &str) {
+/// Prints a line that warns if the second record of the office in a database is on the office's own disk.
+pub fn warn_if_on_one_disk(rt: &HostRuntime, database: &str, record: &str) {
+    if let Ok(warning) = disk_warning(rt, database, record) {
+        let _ = rt.stderr().write_all(warning.as_bytes());
+    }
+}
+
+/// Prints in which file the requests are recorded that the office in a database accepts while it is served, and whether that is on the
+/// office's own disk.
+pub fn tell_recording(rt: &HostRuntime, database: &str, record: &str) {
     let mut stderr = rt.stderr();
-    let _ = writeln!(stderr, "recording in {path} now");
+    let _ = writeln!(stderr, "recording in {record} now");
+    warn_if_on_one_disk(rt, database, record);
+}
+
+/// Prints that there is no note of the second record next to a database.
+pub fn tell_no_record_note(rt: &HostRuntime, database: &str) {
+    let mut stderr = rt.stderr();
+    let _ = writeln!(
+        stderr,
+        "{database}{RECORDING} can't be written, so an order after a stop won't say that it isn't recorded"
+    );
+}
+
+/// Prints that an order which is performed alone isn't recorded, if a note says that the office in a database was served with a second
+/// record.
+pub fn tell_if_unrecorded(rt: &HostRuntime, database: &str) {
+    if let Ok(Some(record)) = recorded_in(rt, database) {
+        let mut stderr = rt.stderr();
+        let _ = writeln!(
+            stderr,
+            "note: this office was served with the second record {record}, which lacks what is done without --second; to keep it no longer, delete {database}{RECORDING}"
+        );
+    }
+}
+
+/// Returns where the second record is with which the office in a database is served, and when its last line was written; `None` if there
+/// is none, or that can't be found out.
+pub fn record_kept(rt: &HostRuntime, database: &str) -> Option<String> {
+    let record = recorded_in(rt, database).ok()??;
+    record_words(rt, record.as_str()).ok()
+}
+
+/// Prints where the second record of an office is, after the office was copied.
+pub fn tell_record(rt: &HostRuntime, words: &str) {
+    let mut stderr = rt.stderr();
+    let _ = writeln!(stderr, "second record: {words}");
+}
+
+/// Prints where the second record of an office is whose place another one has taken.
+pub fn tell_record_until_switch(rt: &HostRuntime, words: &str) {
+    let mut stderr = rt.stderr();
+    let _ = writeln!(
+        stderr,
+        "second record until now: {words}; the new office begins its own next to it"
+    );
 }
 
 /// Prints what an order is waiting for, if the error output is a terminal.

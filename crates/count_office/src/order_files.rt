@@ -86,10 +86,13 @@ fn named_by(
     }
 }
 
-/// Reads the files of an order, each of them once: the order's own file and, if that is a script, the files that its lines
-/// name.
+/// Reads the files of an order, each of them once: the order's own file, which may be a second record, and, if that is a script to
+/// replay, the files that its lines name.
 fn files_of(rt: &HostRuntime, order: &Order<'_>) -> Result<Vec<OrderPart>, AllocError> {
     let mut files = Vec::new(rt.alloc());
+    if let Order::Second { path } = order {
+        read_file_once(rt, &mut files, path)?;
+    }
     let Order::Perform(task) = order else {
         return Ok(files);
     };

@@ -7,13 +7,17 @@ use crate::file_lock::FileLock;
 use crate::localhost::{Localhost, Succession};
 use crate::moved_note::moved_to;
 use crate::notices::{
-    LockHolder, tell_if_moved, warn_foreign_log, warn_if_open_to_others, warn_waited, warn_waiting,
+    LockHolder, record_kept, tell_if_moved, tell_if_unrecorded, tell_record,
+    tell_record_until_switch, warn_foreign_log, warn_if_open_to_others, warn_waited, warn_waiting,
 };
 use crate::order_client::{OrderReply, Sent, print_reply, send_order};
 use crate::order_files::{OrderFiles, read_order_and_files};
 use crate::path_state::{PathKind, PathState};
+use crate::record_note::forget_recording;
 use crate::screen::Screen;
-use crate::{LockedDatabase, close, dispatch_order, is_busy, order_socket, wants_progress};
+use crate::{
+    LockedDatabase, close, dispatch_order, is_busy, order_socket, takes_second, wants_progress,
+};
 use desk::{Failure, Order, ProgressSink, Task, tell_failure};
 use sqlite::{Connection, Wary};
 use std::alloc::{AllocError, Global};
@@ -46,6 +50,21 @@ pub struct OrderRun<'a> {
     pub succession: &'a Succession,
 }
 
+/// Prints, once, that an order isn't recorded which could have a second record and has none, if the office was served with one.
+fn note_unrecorded(place: LockedDatabase<'_>, order: &Order<'_>) {
+    let is_open = place.second.is_none() && takes_second(order);
+    if is_open && !place.succession.is_noted.replace(true) {
+        tell_if_unrecorded(place.rt, place.found.database());
+    }
+}
+
+/// Removes the note that the office in a locked database is served with a second record, if it was served and that has ended by itself.
+fn forget_if_ended(place: LockedDatabase<'_>, status: u8) {
+    if status == 0 && place.succession.is_open.get() {
+        forget_recording(place.rt, place.found.database());
+    }
+}
+
 /// Opens the locked database at a path, performs an order on it, and closes it. If the order fails, nothing is left that didn't
 /// exist before. Returns an error if another program has the file open; nothing has been printed then.
 ///
@@ -69,11 +88,13 @@ fn open_and_perform<O: Sink, E: Sink>(
                 return Ok(refuse_log(rt, place.path, err));
             }
             tell_if_moved(rt, place.found.database());
+            note_unrecorded(place, order);
             let mut host = Localhost::at(place);
             let (status, conn) = dispatch_order(place, &mut host, order, conn, out, err);
             if status != 0 {
                 place.found.remove_created(rt);
             }
+            forget_if_ended(place, status);
             let _ = close(conn);
             Ok(status)
         }
@@ -143,6 +164,60 @@ fn read_order_files(
     Ok(())
 }
 
+/// An order that a served office was given, after which the program says where the office's second record is.
+#[derive(Clone, Copy)]
+enum RecordRemark {
+    AfterCopy,
+    AfterSwitch,
+}
+
+/// Returns how the program says where the second record is after an order; `None` if it doesn't.
+fn remark_of(order: &Order<'_>) -> Option<RecordRemark> {
+    match order {
+        Order::Copy { .. } => Some(RecordRemark::AfterCopy),
+        Order::Mend(asked) if asked.takes_over => Some(RecordRemark::AfterSwitch),
+        _ => None,
+    }
+}
+
+/// Sends the parts of an order to the program that serves the database, and prints the reply. After a copy or a switch, prints where the
+/// second record is, if the office is served with one. Returns what became of sending; the status if there was a reply.
+fn send_and_print<O: Sink, E: Sink>(
+    request: OrderRun<'_>,
+    database: &str,
+    order_files: &OrderFiles,
+    out: &mut O,
+    err: &mut E,
+) -> Result<u8, LockHolder>
+    requires out { O.failed out.old < 2 ^ 64 - 1 }
+    requires err { E.failed err.old < 2 ^ 64 - 1 }
+    ensures { OnErr result ((out.new ≡ out.old) × (err.new ≡ err.old)) }
+{
+    let rt = request.rt;
+    // A switch removes the note that this is read from.
+    let kept = remark_of(request.order).and_then(|_| record_kept(rt, database));
+    let status = match send_order(rt, database, order_files) {
+        Sent::Replying(reply) => print_watched(request, reply, out, err),
+        Sent::Unread => return Err(LockHolder::Order),
+        Sent::Failed(fault) => return Ok(tell_failure(Failure::Office(fault), err)),
+    };
+    if let Some(words) = kept {
+        tell_kept(request, status, words.as_str());
+    }
+    Ok(status)
+}
+
+/// Prints where the second record is, if a copy or a switch has ended with status 0.
+fn tell_kept(request: OrderRun<'_>, status: u8, words: &str) {
+    match remark_of(request.order) {
+        Some(RecordRemark::AfterCopy) if status == 0 => tell_record(request.rt, words),
+        Some(RecordRemark::AfterSwitch) if status == 0 => {
+            tell_record_until_switch(request.rt, words);
+        }
+        _ => {}
+    }
+}
+
 /// Sends an order to the program that has locked the order's database, and returns the status. The order's files are read
 /// before the connection is made, however long that takes. Returns an error if the program doesn't serve the database, or no
 /// longer does; nothing has been printed then.
@@ -167,11 +242,7 @@ fn hand_over<O: Sink, E: Sink>(
     if !request.second.is_empty() {
         return Ok(tell_failure(Failure::BeingServed, err));
     }
-    match send_order(request.rt, database, order_files) {
-        Sent::Replying(reply) => Ok(print_watched(request, reply, out, err)),
-        Sent::Unread => Err(LockHolder::Order),
-        Sent::Failed(fault) => Ok(tell_failure(Failure::Office(fault), err)),
-    }
+    send_and_print(request, database, &*order_files, out, err)
 }
 
 /// Returns whether the error means that another order has locked the database or has just created it.

@@ -6,7 +6,7 @@
 ghost use Rattle.std.specs.Prelude.{None, ⊤};
 
 use crate::codes_file::write_new;
-use crate::moved_note::flush_folder;
+use crate::path_note::flush_folder;
 use crate::path_state::{ENDINGS, is_no_file};
 use desk::DurableSink;
 use std::fs::{self, File, OpenOptions};
@@ -17,9 +17,15 @@ use streams::Broken;
 /// The permission bits that let the group and others write to a file.
 const WRITING_BY_OTHERS: u32 = 0o022;
 
-/// More endings of names that belong to an office: of its socket, of a note that is being written, and of a file that other programs
-/// using SQLite create.
-const MORE_ENDINGS: [&str; 3] = ["-serve", "-moved-unfinished", "-shm"];
+/// More endings of names that belong to an office: of its socket, of its other note, of notes that are being written, and of a file that
+/// other programs using SQLite create.
+const MORE_ENDINGS: [&str; 5] = [
+    "-serve",
+    "-recording",
+    "-recording-unfinished",
+    "-moved-unfinished",
+    "-shm",
+];
 
 /// The reason why a file can't be used as a second record.
 #[derive(Clone, Copy, Debug, PartialEq, Eq, Drop)]

@@ -6,7 +6,7 @@ ghost use Rattle.sqlite.specs.Held.{state};
 ghost use Rattle.tables.specs.Reading.{OnlyReads};
 ghost use Rattle.count_office.specs.Done.{IsDoneRecorded};
 
-use crate::notices::tell_second_unusable;
+use crate::notices::{tell_second_unusable, warn_if_on_one_disk};
 use crate::order_files::LocalFolder;
 use crate::second_file::{SecondFault, SecondFile};
 use crate::seconds::second;
@@ -16,11 +16,12 @@ use desk::{Failure, Task, tell_failure};
 use sqlite::{Alter, Connection};
 use streams::{Broken, Counted, Sink, put_all};
 
-/// A task, the files that it names, and the path of the second record.
+/// A task, the files that it names, the path of the office's database, and that of the second record.
 #[derive(Clone, Copy)]
 pub struct RecordedTask<'a> {
     pub paths: LocalFolder<'a>,
     pub task: &'a Task<'a>,
+    pub database: &'a str,
     pub second: &'a str,
 }
 
@@ -78,7 +79,8 @@ fn open_record<'a, S: Alter, E: Sink>(
 /// Performs a task on an open connection to an office with a second record, prints the outcome, and returns the status.
 ///
 /// If the record's file can't be used, or doesn't hold the same as the office, nothing is done, and this is printed. If recording an
-/// accepted request fails, why is printed, and fault 112 in place of the reply; and nothing more is done.
+/// accepted request fails, why is printed, and fault 112 in place of the reply; and nothing more is done. If the record is on the disk of
+/// the office, a line says so.
 pub fn perform_with_record<S: Alter, O: Sink, E: Sink>(
     asked: RecordedTask<'_>,
     conn: Connection<S>,
@@ -95,6 +97,7 @@ pub fn perform_with_record<S: Alter, O: Sink, E: Sink>(
         Ok(file) => file,
         Err(status) => return (status, conn),
     };
+    warn_if_on_one_disk(rt, asked.database, asked.second);
     let mut record = TimedRecord::new(rt, asked.second, file);
     perform_recorded(
         rt.alloc(),

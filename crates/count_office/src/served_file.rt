@@ -8,7 +8,9 @@ ghost use Rattle.count_office.specs.CopyPaths.{copy_path, folder_of};
 use crate::copies::copy_served;
 use crate::file_watch::FileWatch;
 use crate::mends::{OldOffice, mend_served};
-use desk::{Failure, MendOrder, journal_open, tell_failure};
+use crate::record_place::record_lines;
+use crate::seconds::second_served;
+use desk::{Failure, Folder, MendOrder, journal_open, tell_failure};
 use office::Office;
 use server::{Destination, ServedFile};
 use sqlite::{Alter, Connection};
@@ -18,11 +20,12 @@ use std::path::{Path, PathBuf};
 use store::Fault;
 use streams::Sink;
 
-/// This machine, the files of the office that is being served, and whether a new office has taken its place.
+/// This machine, the files of the office that is being served, the path of its second record, if there is one, and whether a new office has taken its place.
 #[derive(Drop)]
 pub struct LocalFile<'a> {
     pub rt: &'a HostRuntime,
     pub file_watch: FileWatch<'a>,
+    pub second: Option<&'a str>,
     pub is_moved: Cell<bool>,
 }
 
@@ -60,6 +63,8 @@ impl ServedFile for LocalFile<'_> {
     ghost moved = { λ _. ⊤ };
 
     ghost ended = { λ _ _ _ _. ⊤ };
+
+    ghost described = { λ _ _. ⊤ };
 
     fn is_whole(&self) -> bool {
         !self.is_moved.get() && self.file_watch.is_whole(self.rt)
@@ -117,6 +122,24 @@ impl ServedFile for LocalFile<'_> {
                 status
             }
             Err(AllocError) => tell_failure(Failure::Office(Fault::Memory), err),
+        }
+    }
+
+    fn second<S: Alter, F: Folder, O: Sink, E: Sink>(
+        &self,
+        office: &mut Office<S>,
+        folder: &F,
+        path: &str,
+        out: &mut O,
+        err: &mut E,
+    ) -> u8 {
+        second_served(self.rt.alloc(), folder, office, path, out, err)
+    }
+
+    fn record_text(&self, alloc: Global) -> Result<String, AllocError> {
+        match self.second {
+            Some(record) => record_lines(self.rt, self.file_watch.database(), record),
+            None => String::from_str(alloc, "no second record\n"),
         }
     }
 }

@@ -9,7 +9,6 @@ ghost use Rattle.count_office.specs.Records.{has_failed};
 ghost use Rattle.count_office.specs.Serving.{ServesInRecord, ServesWith};
 
 use crate::host::Host;
-use crate::notices::tell_recording;
 use crate::second_file::SecondFile;
 use crate::second_order::refuse_second;
 use crate::serving::{Serving, serve};
@@ -107,9 +106,6 @@ fn serve_with_record<H: Host, S: Alter, E: Sink>(
         Ok(recorder) => recorder,
         Err(status) => return (status, conn),
     };
-    if place.is_successor {
-        tell_recording(place.rt, path);
-    }
     place.succession.is_open.set(false);
     let (status, conn, recorder) = serve(place.rt.alloc(), host, serving, conn, recorder, err);
     drop(recorder);

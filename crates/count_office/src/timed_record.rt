@@ -15,7 +15,14 @@ use streams::Broken;
 /// The number of seconds in a day.
 const DAY: u64 = 86_400;
 
-/// Returns the time of day in UTC, as `21:04:07 UTC`; an empty text if the clock fails.
+/// Returns the time of day in UTC, as `21:04:07 UTC`, so many seconds after the start of 1970.
+pub fn clock_text(alloc: Global, since: u64) -> Result<String, AllocError> {
+    let seconds = since % DAY;
+    let (hour, minute, second) = (seconds / 3_600, seconds / 60 % 60, seconds % 60);
+    format!(in alloc; "{hour:02}:{minute:02}:{second:02} UTC")
+}
+
+/// Returns the time of day in UTC now; an empty text if the clock fails.
 pub fn time_of_day(rt: &HostRuntime) -> Result<String, AllocError> {
     let alloc = rt.alloc();
     let since = match SystemTime::now(rt) {
@@ -25,9 +32,7 @@ pub fn time_of_day(rt: &HostRuntime) -> Result<String, AllocError> {
     let Ok(since) = since else {
         return Ok(String::new(alloc));
     };
-    let seconds = since.as_secs() % DAY;
-    let (hour, minute, second) = (seconds / 3_600, seconds / 60 % 60, seconds % 60);
-    format!(in alloc; "{hour:02}:{minute:02}:{second:02} UTC")
+    clock_text(alloc, since.as_secs())
 }
 
 /// Returns the name of the sender of a request.

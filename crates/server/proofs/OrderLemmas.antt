@@ -1,8 +1,9 @@
 -- How an order is processed, step by step.
-use Rattle.std.proofs.Common.{◌≡◌, ◌∙◌, ◌⊎◌, ◌∷◌, Bool, true, false, true≢false, ℕ, List, [], None, Bor, Option, Some, ap, drop, inl, inr, map, refl, subst, sym}
+use Rattle.std.proofs.Common.{◌≡◌, ◌∙◌, ◌⊎◌, ◌∷◌, ⊤, Bool, true, false, true≢false, tt, ℕ, List, [], None, Bor, Option, Some, ap, drop, inl, inr, map, refl, subst, sym}
 use Rattle.std.specs.Io.KnownBytes.{Appends}
 use Rattle.std.specs.List.{list_all}
 use Rattle.std.specs.Str.{is_utf8}
+use Rattle.clap.specs.Words.{Text}
 use Rattle.sqlite.specs.Held.{Held}
 use Rattle.sqlite.specs.State.{HasCleanDisk, State}
 use Rattle.tables.specs.declared.fault.Fault.{Fault}
@@ -28,6 +29,7 @@ use Rattle.server.specs.ServedOrders.{
   FollowsOrder,
   IsForFile,
   IsMessage,
+  IsRecordTold,
   IsUnread,
   IsResponseToOrder,
   folder_of,
@@ -212,6 +214,11 @@ words_same h seen texts words is read same =
     words_read h ∙ ap (map (λ (p : MessagePart). p.name.now)) (sym is) ∙ sym read ∙ ap (map (λ (t : Bor (List ℕ)). t.now)) (sym same)
 
 -- ---- the record
+
+-- the text that says where the record is, whatever it says of that
+pub any_described : (described : Text → Type 0) (has_failed : Bool) (page : Page) → IsRecordTold described has_failed page → IsRecordTold (λ (text : Text). ⊤) has_failed page
+any_described described has_failed page (inl (text, (where_it_is, it, is), told)) = inl (text, (where_it_is, tt, is), told)
+any_described described has_failed page (inr failing) = inr failing
 
 -- an order that fails for another reason isn't refused because of its record
 pub other_failure : (failed : Bool) (fault : Fault) → AgreesWithRecord failed (asked.Refused (Office fault))

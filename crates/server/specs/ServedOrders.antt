@@ -1,6 +1,6 @@
 -- An order that is handed over to the server: what its message asks for, the outcome, and its output in frames. The words of an order from the console have the same
 -- meaning, and it is carried out the same way.
-use Rattle.std.specs.Prelude.{◌≡◌, ◌⊎◌, ⊤, Bool, false, true, List, [], ◌∷◌, None, Some, bytes_eq, drop, if◌then◌else◌, length, map, option_map, take, ◌≤◌, ◌+◌, Option, ℕ}
+use Rattle.std.specs.Prelude.{◌≡◌, ◌⊎◌, ⊤, Bool, false, true, List, [], ◌∷◌, None, Some, bytes_eq, codes, drop, if◌then◌else◌, length, map, option_map, take, ◌≤◌, ◌+◌, ◌++◌, Option, ℕ}
 use Rattle.std.specs.Int.{from_be_bytes, w64}
 use Rattle.std.specs.List.{list_all}
 use Rattle.std.specs.Str.{is_utf8}
@@ -16,14 +16,15 @@ use Rattle.office.specs.Values.{OfficeValue}
 use Rattle.order_protocol.specs.Frames.{AreWhole, IsOver, error_output_of, output_of}
 use Rattle.order_protocol.specs.Messages.{Fits, OrderMessageEntry, MessagePartEntry, encoding_of}
 use Rattle.desk.specs.Copying.{copied_text}
-use Rattle.desk.specs.Folders.{File, Folder}
+use Rattle.desk.specs.Folders.{File, Folder, IsFileAt}
 use Rattle.desk.specs.Headline.{IsDoneBy}
 use Rattle.desk.specs.Journals.{IsJournalTold}
 use Rattle.desk.specs.Mends.{IsMendPage}
 use Rattle.desk.specs.Orders.{told}
-use Rattle.desk.specs.Pages.{Cut, IsShown, Outputs, Page, below, closed_page, failed, replied, words_page}
+use Rattle.desk.specs.Pages.{Cut, IsShown, Outputs, Page, below, closed_page, failed, printed, replied, words_page}
 use Rattle.desk.specs.Parts.{ComesTo, ComesToRecorded}
 use Rattle.desk.specs.Records.{IsRecorded}
+use Rattle.desk.specs.Seconds.{IsSecondTold}
 use Rattle.desk.specs.Words.{IsNoneMeant, meaning, office_words}
 use Rattle.desk.specs.declared.lines.Failure.{Failure}
 use Rattle.desk.specs.declared.lines.Failure.TheVariants.{BeingServed, CopyFailed, FileGone, Office, SecondRecord}
@@ -69,18 +70,26 @@ abbrev pub IsForNone : Order → Type 0
 IsForNone (order.Perform task.Init) = ⊤
 IsForNone (order.Perform task.Migrate) = ⊤
 IsForNone (order.Serve port connections origin codes public) = ⊤
-IsForNone (order.Second path) = ⊤
 IsForNone (order.Codes path clerks with_office) = ⊤
 IsForNone (order.Slips path address) = ⊤
 IsForNone other = ⊥
 
--- What the words of an order for the served file ask for: a job, a copy, the journal, or a new office from it. Or why it isn't carried out: the words aren't an order;
--- or the file is gone (and isn't known to be whole); or the office has a second record, which failed.
+-- the words, after DB, are only `record`
+abbrev pub asks_for_record : List Text → Bool
+asks_for_record [] = false
+asks_for_record (db ∷ []) = false
+asks_for_record (db ∷ word ∷ []) = bytes_eq word (codes "record")
+asks_for_record (db ∷ word ∷ other ∷ words) = false
+
+-- What the words of an order for the served file ask for: a job, a copy, the journal, a new office from it, a comparison with a second record, or where the office's own
+-- is. Or why it isn't carried out: the words aren't an order; or the file is gone (and isn't known to be whole); or the office has a second record, which failed.
 abbrev pub AsksSo : Option Bool → Bool → List Text → ServedOrder → Type 0
 AsksSo whole recorded words (asked.Do job) = MeansOrder words (order.Perform (task.InOffice job))
 AsksSo whole recorded words (asked.Copy path) = MeansOrder words (order.Copy path)
 AsksSo whole recorded words asked.Journal = MeansOrder words order.Journal
 AsksSo whole recorded words (asked.Mend mending) = MeansOrder words (order.Mend mending)
+AsksSo whole recorded words (asked.Second path) = MeansOrder words (order.Second path)
+AsksSo whole recorded words asked.Record = asks_for_record words ≡ true
 AsksSo whole recorded words (asked.Refused failure) =
     ((failure ≡ BeingServed) × ((o : Order) × MeansOrder words o × IsForNone o))
     ⊎ (((failure ≡ FileGone) × ((job : Job) × MeansOrder words (order.Perform (task.InOffice job))) × (whole ≡ Some true → ⊥))
@@ -137,6 +146,23 @@ IsCopyTold s page =
     (page ≡ replied (copied_text (holdings_of s)))
     ⊎ ((page ≡ below (replied (copied_text (holdings_of s))) (failed CopyFailed)) ⊎ ((failure : Failure) × (page ≡ failed failure)))
 
+-- The page for a second record in a file of a folder: whether the office in a given state holds the same, and how they differ otherwise, or why that file is no record. Or
+-- an allocation failed.
+abbrev pub IsSecondIn : Folder → OfficeState → Text → Page → Type 0
+IsSecondIn folder s path page = ((file : File) × IsFileAt folder (Some path) file × IsSecondTold s path file page) ⊎ (page ≡ failed (Office Memory))
+
+-- the line that follows if the second record of the office failed
+abbrev pub failed_record_line : Text
+failed_record_line = codes "it failed, and nothing more is accepted: end serve, and start it with a new file\n"
+
+-- the text that says where the second record of the office is, as given; and after it, if the record failed, that it did
+abbrev pub IsRecordText : (Text → Type 0) → Bool → Text → Type 0
+IsRecordText described has_failed text = (where_it_is : Text) × described where_it_is × (text ≡ where_it_is ++ (if has_failed then failed_record_line else []))
+
+-- the page with that text; or an allocation failed
+abbrev pub IsRecordTold : (Text → Type 0) → Bool → Page → Type 0
+IsRecordTold described has_failed page = ((text : Text) × IsRecordText described has_failed text × (page ≡ printed text)) ⊎ (page ≡ failed (Office Memory))
+
 -- A job is carried out only if the record hasn't failed, and an order is refused because of its record only if that has failed.
 abbrev pub AgreesWithRecord : Bool → ServedOrder → Type 0
 AgreesWithRecord failed (asked.Do job) = failed ≡ false
@@ -144,8 +170,8 @@ AgreesWithRecord failed (asked.Refused failure) = failure ≡ SecondRecord → f
 AgreesWithRecord failed other = ⊤
 
 -- The outcome of what is requested in a given state, and what it leaves of the office, whose connection was in the state `old`, and of its record. A job is carried out in
--- the office, and each request of it that the office accepts is recorded before it is acknowledged. For a copy, the journal, or a new office from it, the office is only
--- read. An order that isn't carried out leaves it unchanged.
+-- the office, and each request of it that the office accepts is recorded before it is acknowledged. For a copy, the journal, a new office from it, or a comparison with a
+-- second record, the office is only read. An order that only says where the record is, or isn't carried out, leaves it unchanged.
 abbrev pub IsOrderOutcome : RecordChange → State → Bool → State → Folder → OfficeState → ServedOrder → Cut → Page → Type 0
 IsOrderOutcome change old closed st folder s (asked.Do job) cut page =
     ComesToRecorded cut page (λ requests answered. change.had_failed ≡ false → IsRecorded s requests answered change.old change.new change.has_failed)
@@ -153,6 +179,8 @@ IsOrderOutcome change old closed st folder s (asked.Do job) cut page =
 IsOrderOutcome change old closed st folder s (asked.Copy path) cut page = IsCopyTold s page × IsReadAt s closed st × change.same
 IsOrderOutcome change old closed st folder s asked.Journal cut page = IsJournalTold s page × IsReadAt s closed st × change.same
 IsOrderOutcome change old closed st folder s (asked.Mend mending) cut page = IsMendPage s mending page × IsReadAt s closed st × change.same
+IsOrderOutcome change old closed st folder s (asked.Second path) cut page = IsSecondIn folder s path.now page × IsReadAt s closed st × change.same
+IsOrderOutcome change old closed st folder s asked.Record cut page = IsRecordTold (λ text. ⊤) change.had_failed page × IsOpenAt s closed st × change.same
 IsOrderOutcome change old closed st folder s (asked.Refused failure) cut page = (page ≡ failed failure) × IsOpenAt s closed st × change.same
 IsOrderOutcome change old closed st folder s (asked.Misread fault) cut page = (page ≡ words_page fault) × IsOpenAt s closed st × change.same
 
@@ -162,6 +190,8 @@ closed_office_page (asked.Do job) = closed_page
 closed_office_page (asked.Copy path) = closed_page
 closed_office_page asked.Journal = closed_page
 closed_office_page (asked.Mend mending) = closed_page
+closed_office_page (asked.Second path) = closed_page
+closed_office_page asked.Record = closed_page
 closed_office_page (asked.Refused failure) = failed failure
 closed_office_page (asked.Misread fault) = words_page fault
 
@@ -205,6 +235,8 @@ PrintsAt {S} state_of recorded folder s (asked.Do job) cut page sent last =
 PrintsAt state_of recorded folder s (asked.Copy path) cut page sent last = IsCopyTold s page × (sent ≡ []) × (last ≡ [])
 PrintsAt state_of recorded folder s asked.Journal cut page sent last = IsJournalTold s page × (sent ≡ []) × (last ≡ [])
 PrintsAt state_of recorded folder s (asked.Mend mending) cut page sent last = IsMendPage s mending page × (sent ≡ []) × (last ≡ [])
+PrintsAt state_of recorded folder s (asked.Second path) cut page sent last = IsSecondIn folder s path.now page × (sent ≡ []) × (last ≡ [])
+PrintsAt state_of recorded folder s asked.Record cut page sent last = ((has_failed : Bool) × IsRecordTold (λ text. ⊤) has_failed page) × (sent ≡ []) × (last ≡ [])
 PrintsAt state_of recorded folder s (asked.Refused failure) cut page sent last = (page ≡ failed failure) × (sent ≡ []) × (last ≡ [])
 PrintsAt state_of recorded folder s (asked.Misread fault) cut page sent last = (page ≡ words_page fault) × (sent ≡ []) × (last ≡ [])
 

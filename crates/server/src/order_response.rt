@@ -1,7 +1,7 @@
 //! The response to an order that is handed over. The order is processed in the open office, and its output is sent in frames.
 //! `console_order` uses the same code to process an order.
 
-ghost use Rattle.std.specs.Prelude.{◌≡◌, ⊤, ◌-◌, ◌^◌, ◌<◌, ℕ, Bool, IfNone, IfSome, List, Option, [], false, map, option_map, true};
+ghost use Rattle.std.specs.Prelude.{◌≡◌, ⊤, ◌-◌, ◌^◌, ◌<◌, ℕ, Bool, IfNone, IfOk, IfSome, List, Option, [], false, map, option_map, string_bytes, true};
 ghost use Rattle.clap.specs.Words.{Text};
 ghost use Rattle.sqlite.specs.State.{HasCleanDisk};
 ghost use Rattle.sqlite.specs.Held.{state};
@@ -14,6 +14,7 @@ ghost use Rattle.desk.specs.Pages.{IsErrorTold, Shows, Tells, failed, outputs_of
 ghost use Rattle.server.specs.Destinations.{EndsWhereAsked, destination_at, destination_entry, folder_typed_in, is_bare_name};
 ghost use Rattle.server.specs.RecordChanges.{change_of};
 ghost use Rattle.server.specs.Settings.{settings_by};
+ghost use Rattle.server.specs.ServedOrders.{IsRecordText, IsRecordTold};
 ghost use Rattle.server.specs.ServedOrders.{AgreesWithRecord, AsksSo, IsOrderOutcome, FollowsOrder, IsWholeMessage, IsCopyTold, IsMessage, IsResponseToOrder, folder_of, closed_office_page};
 
 use crate::frame_sink::FrameSink;
@@ -22,13 +23,19 @@ use crate::served_file::{Destination, ServedFile};
 use crate::served_order::{ServedOrder, is_for_file, read_message, served_order_by, words_of};
 use crate::server_settings::ServerSettings;
 use connections::{PendingResponse, Stream, VecSink};
-use desk::{Failure, Folder, MendOrder, Recorder, follow_recorded, tell_failure, tell_words};
+use desk::{
+    Failure, Folder, MendOrder, Recorder, WordsFault, follow_recorded, tell_failure, tell_words,
+};
 use office::Office;
 use order_protocol::{MessagePart, OrderMessage};
 use sqlite::Alter;
 use std::alloc::{AllocError, Global};
 use store::Fault;
 use streams::Sink;
+
+/// The line that follows if the second record of the office failed.
+const FAILED_RECORD_LINE: &str =
+    "it failed, and nothing more is accepted: end serve, and start it with a new file\n";
 
 /// The files sent with an order, and the folder in which the order was typed; `None` for an order from the console. There is no
 /// file at any other path.
@@ -87,6 +94,8 @@ fn print_closed<O: Sink, E: Sink>(asked: &ServedOrder<'_>, out: &mut O, err: &mu
         ServedOrder::Copy(_) => tell_failure(Failure::Office(Fault::Closed), err),
         ServedOrder::Journal => tell_failure(Failure::Office(Fault::Closed), err),
         ServedOrder::Mend(_) => tell_failure(Failure::Office(Fault::Closed), err),
+        ServedOrder::Second(_) => tell_failure(Failure::Office(Fault::Closed), err),
+        ServedOrder::Record => tell_failure(Failure::Office(Fault::Closed), err),
     }
 }
 
@@ -166,6 +175,40 @@ fn mend_for_order<A: ServedFile, S: Alter, O: Sink, E: Sink>(
     }
 }
 
+/// Returns the text that says where the second record of the office is and, if it failed, that it did. The only error is a failed
+/// allocation.
+fn record_text<A: ServedFile>(
+    alloc: Global,
+    served_file: &A,
+    has_failed: bool,
+) -> Result<String, AllocError>
+    ensures { IfOk result (λ text. IsRecordText (A.described served_file.now) has_failed (string_bytes text)) }
+{
+    let mut text = served_file.record_text(alloc)?;
+    if has_failed {
+        text.push_str(FAILED_RECORD_LINE)?;
+    }
+    Ok(text)
+}
+
+/// Prints where the second record of the office is and, if it failed, that it did. Returns the status.
+fn tell_record<A: ServedFile, R: Recorder, O: Sink, E: Sink>(
+    order: &OrderContext<'_, A>,
+    recorder: &R,
+    out: &mut O,
+    err: &mut E,
+) -> u8
+    requires out { O.failed out.old < 2 ^ 64 - 1 }
+    requires err { E.failed err.old < 2 ^ 64 - 1 }
+    ensures { let outputs = outputs_of O.taken O.failed E.taken E.failed in Tells (outputs out.old err.old) (outputs out.new err.new) result
+        (λ _ page. IsRecordTold (A.described order.now.served_file.now) (R.failed recorder.now) page) }
+{
+    match record_text(order.alloc, order.served_file, recorder.has_failed()) {
+        Ok(text) => tell_words(&WordsFault::Words { text, status: 0 }, out, err),
+        Err(AllocError) => tell_failure(Failure::Office(Fault::Memory), err),
+    }
+}
+
 /// Carries out an order in an open office, and returns the status. Each request of a job that the office accepts is recorded
 /// before it is acknowledged.
 fn do_open<A: ServedFile, S: Alter, R: Recorder, O: Sink, E: Sink>(
@@ -181,6 +224,8 @@ fn do_open<A: ServedFile, S: Alter, R: Recorder, O: Sink, E: Sink>(
         (λ cut page. WhenOpenAt (state S.Store) office.old office.new
         (λ s. IsOrderOutcome (change_of R.found R.failed recorder.old recorder.new) (state S.Store office.old.held) office.new.closed (state S.Store office.new.held) (folder_of
         (message_part_entries order.now.attached.files.now)) s order.now.asked.now cut page)) }
+    ensures recorded { order.now.asked.now ≡ ServedOrder.Record → (let outputs = outputs_of O.taken O.failed E.taken E.failed in
+        Tells (outputs out.old err.old) (outputs out.new err.new) result (λ _ page. IsRecordTold (A.described order.now.served_file.now) (R.failed recorder.old) page)) }
     ensures ended { EndsWhereAsked (A.ended order.now.served_file.now) (IsErrorTold E.taken E.failed err.old err.new (failed Failure.CopyFailed).err 3 result)
         (folder_typed_in order.now.attached) order.now.asked.now result }
     ensures same { R.records recorder.new ≡ R.records recorder.old }
@@ -200,6 +245,11 @@ fn do_open<A: ServedFile, S: Alter, R: Recorder, O: Sink, E: Sink>(
         ServedOrder::Copy(path) => copy_for_order(order, path, office, out, err),
         ServedOrder::Journal => order.served_file.journal(office, out, err),
         ServedOrder::Mend(mending) => mend_for_order(order, mending, office, out, err),
+        ServedOrder::Second(path) => {
+            let attached = &order.attached;
+            order.served_file.second(office, attached, path, out, err)
+        }
+        ServedOrder::Record => tell_record(order, &*recorder, out, err),
     }
 }
 
@@ -220,6 +270,8 @@ pub fn do_asked<A: ServedFile, S: Alter, R: Recorder, O: Sink, E: Sink>(
         × (office.old.closed ≡ true → page ≡ closed_office_page order.now.asked.now)) }
     ensures closed { office.old.closed ≡ true → office.new ≡ office.old }
     ensures closed_same { office.old.closed ≡ true → recorder.new ≡ recorder.old }
+    ensures recorded { office.old.closed ≡ false → order.now.asked.now ≡ ServedOrder.Record → (let outputs = outputs_of O.taken O.failed E.taken E.failed in
+        Tells (outputs out.old err.old) (outputs out.new err.new) result (λ _ page. IsRecordTold (A.described order.now.served_file.now) (R.failed recorder.old) page)) }
     ensures ended { office.old.closed ≡ false
         → EndsWhereAsked (A.ended order.now.served_file.now) (IsErrorTold E.taken E.failed err.old err.new (failed Failure.CopyFailed).err 3 result)
         (folder_typed_in order.now.attached) order.now.asked.now result }
@@ -373,7 +425,7 @@ fn respond_to_message<L: Stream, A: ServedFile, S: Alter, R: Recorder>(
 /// and returns the stream.
 ///
 /// The response is fault 102, as for a file locked by another program, if the bytes aren't a message, or if the order comes
-/// from another version of the program or is for another file. For `init`, `migrate`, `serve`, `second`, `codes` and `forms slips`,
+/// from another version of the program or is for another file. For `init`, `migrate`, `serve`, `codes` and `forms slips`,
 /// the response says that the office is being served (111). If the record has failed, the response to a job says so (112).
 pub fn answer_order<L: Stream, A: ServedFile, S: Alter, R: Recorder>(
     alloc: Global,

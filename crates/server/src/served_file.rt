@@ -1,18 +1,20 @@
 //! The file of the office that is served, and what else an order needs: a new file for a copy or for another office, and empty
 //! databases for a trial run of a journal.
 
-ghost use Rattle.std.specs.Prelude.{◌≡◌, ◌≢◌, ◌-◌, ◌^◌, ◌<◌, Bool, IfSome, List, Option, Some, true, ℕ};
+ghost use Rattle.std.specs.Prelude.{◌≡◌, ◌≢◌, ◌-◌, ◌^◌, ◌<◌, Bool, IfOk, IfSome, List, Option, Some, string_bytes, true, ℕ};
 ghost use Rattle.sqlite.specs.Held.{state};
 ghost use Rattle.sqlite.specs.State.{HasCleanDisk};
 ghost use Rattle.office.specs.Answers.{IsReadAt, WhenOpenAt};
 ghost use Rattle.desk.specs.Journals.{IsJournalTold};
 ghost use Rattle.desk.specs.Mends.{IsMendPage};
 ghost use Rattle.desk.specs.Pages.{Tells, outputs_of};
-ghost use Rattle.server.specs.ServedOrders.{IsCopyTold};
+ghost use Rattle.clap.specs.Words.{Text};
+ghost use Rattle.server.specs.ServedOrders.{IsCopyTold, IsSecondIn};
 
-use desk::MendOrder;
+use desk::{Folder, MendOrder};
 use office::Office;
 use sqlite::Alter;
+use std::alloc::{AllocError, Global};
 use streams::Sink;
 
 /// The destination of a copy or of a new office: a path relative to a folder.
@@ -23,7 +25,8 @@ pub struct Destination<'a> {
 }
 
 /// The file of the office that is served. It copies the open office to a new file, prints its journal, and makes another office
-/// from that journal in a new file. The office stays open and is only read. The implementing program chooses the files.
+/// from that journal in a new file; and it compares the office with a second record of it, and says where the office's own is. The office
+/// stays open and is only read. The implementing program chooses the files.
 pub trait ServedFile {
     /// Whether the file of the office is permanently known to be whole, or permanently known not to be. Nothing is known about
     /// a real file on this machine.
@@ -35,6 +38,9 @@ pub trait ServedFile {
 
     /// That an order which makes a file ended with a status, given the file's folder, its path, and that status.
     ghost ended: { Self → List ℕ → List ℕ → ℕ → Type 0 };
+
+    /// What a text says of where the second record of the office is. Nothing is known about a real file on this machine.
+    ghost described: { Self → Text → Type 0 };
 
     /// Returns whether the file of the office is still there, whole, and not replaced by another. If the answer is permanently
     /// known, returns that answer.
@@ -93,4 +99,24 @@ pub trait ServedFile {
         ensures stays { WhenOpenAt (state S.Store) office.old office.new (λ s. IsReadAt s office.new.closed (state S.Store office.new.held)) }
         ensures ended { ended self.now to.entry.folder.now to.entry.path.now result }
         ensures clean { HasCleanDisk (state S.Store office.new.held) → HasCleanDisk (state S.Store office.old.held) };
+
+    /// Compares the office with a second record of it, in a file of a folder, and prints the outcome.
+    fn second<S: Alter, F: Folder, O: Sink, E: Sink>(
+        &self,
+        office: &mut Office<S>,
+        folder: &F,
+        path: &str,
+        out: &mut O,
+        err: &mut E,
+    ) -> u8
+        requires out { O.failed out.old < 2 ^ 64 - 1 }
+        requires err { E.failed err.old < 2 ^ 64 - 1 }
+        ensures told { let outputs = outputs_of O.taken O.failed E.taken E.failed in Tells (outputs out.old err.old) (outputs out.new err.new) result
+            (λ _ page. WhenOpenAt (state S.Store) office.old office.new (λ s. IsSecondIn (F.held folder.now) s path.now page)) }
+        ensures stays { WhenOpenAt (state S.Store) office.old office.new (λ s. IsReadAt s office.new.closed (state S.Store office.new.held)) }
+        ensures clean { HasCleanDisk (state S.Store office.new.held) → HasCleanDisk (state S.Store office.old.held) };
+
+    /// Returns a text that says where the second record of the office is, or that there is none. The only error is a failed allocation.
+    fn record_text(&self, alloc: Global) -> Result<String, AllocError>
+        ensures { IfOk result (λ text. described self.now (string_bytes text)) };
 }

@@ -4,7 +4,7 @@ ghost use Rattle.std.specs.Prelude.{◌≡◌, ◌⊎◌, ◌↔◌, Bool, IfErr
 ghost use Rattle.std.specs.List.{list_all};
 ghost use Rattle.std.specs.Str.{is_utf8};
 ghost use Rattle.order_protocol.specs.Messages.{OrderMessageEntry, Fits, order_message_entry, encoding_of};
-ghost use Rattle.server.specs.ServedOrders.{AsksSo, IsForFile};
+ghost use Rattle.server.specs.ServedOrders.{AsksSo, IsForFile, asks_for_record};
 
 use crate::server_settings::FileNumbers;
 use desk::version::VERSION;
@@ -24,6 +24,10 @@ pub enum ServedOrder<'a> {
     Journal,
     /// A new office from that journal, in a new file, with some orders left out and others replaced.
     Mend(MendOrder<'a>),
+    /// To compare the office with the second record in the file that was sent for this path.
+    Second(&'a str),
+    /// To print where the second record of the office is.
+    Record,
     /// Nothing: the order isn't carried out, for the given reason.
     Refused(Failure),
     /// Nothing: its words aren't an order.
@@ -70,20 +74,34 @@ pub fn is_for_file(handed: &OrderMessage<'_>, file: FileNumbers) -> bool
         && handed.inode == file.inode
 }
 
-/// Returns what an order for the served file asks for. The orders `init`, `migrate`, `serve`, `second`, `codes` and `forms slips` are
+/// Returns whether the words, after DB, are only `record`: where the second record of the office is. Nothing but a server has it, so this
+/// isn't an order on the command line.
+fn asks_for_record(words: &[&str]) -> bool
+    ensures { result ≡ asks_for_record (map (λ word. word.now) words.now) }
+{
+    match words {
+        [_, word] => *word == "record",
+        _ => false,
+    }
+}
+
+/// Returns what an order for the served file asks for. The orders `init`, `migrate`, `serve`, `codes` and `forms slips` are
 /// refused, because the office is being served. (On the command line, the program carries out the last two without the server.)
 pub fn served_order_by<'w>(alloc: Global, words: &'w [&'w str]) -> ServedOrder<'w>
     ensures { (whole : Option Bool) (recorded : Bool) → AsksSo whole recorded (map (λ word. word.now) words.entry.now) result }
 {
+    if asks_for_record(words) {
+        return ServedOrder::Record;
+    }
     match order(alloc, words) {
         Ok(Order::Perform(Task::InOffice(job))) => ServedOrder::Do(job),
         Ok(Order::Copy { path }) => ServedOrder::Copy(path),
         Ok(Order::Journal) => ServedOrder::Journal,
         Ok(Order::Mend(asked)) => ServedOrder::Mend(asked),
+        Ok(Order::Second { path }) => ServedOrder::Second(path),
         Ok(
             Order::Perform(Task::Init | Task::Migrate)
             | Order::Serve { .. }
-            | Order::Second { .. }
             | Order::Codes { .. }
             | Order::Slips { .. },
         ) => { ServedOrder::Refused(Failure::BeingServed) }

@@ -290,7 +290,7 @@ fn terms_of(held: &Option<Codes>) -> ServerSettings<'_, Unaided> {
     }
 }
 
-/// A file that can have no copy and no journal, and from which no new office can be made.
+/// A file that can have no copy and no journal, from which no new office can be made, and with which no second record can be compared.
 #[derive(Clone, Copy)]
 pub struct Unaided;
 
@@ -300,6 +300,8 @@ impl ServedFile for Unaided {
     ghost moved = { λ _. ⊥ };
 
     ghost ended = { λ _ _ _ _. ⊤ };
+
+    ghost described = { λ _ _. ⊥ };
 
     fn is_whole(&self) -> bool {
         true
@@ -337,6 +339,21 @@ impl ServedFile for Unaided {
         err: &mut E,
     ) -> u8 {
         tell_failure(Failure::CopyFailed, err)
+    }
+
+    fn second<S: Alter, F: Folder, O: Sink, E: Sink>(
+        &self,
+        _office: &mut Office<S>,
+        _folder: &F,
+        _path: &str,
+        _out: &mut O,
+        err: &mut E,
+    ) -> u8 {
+        tell_failure(Failure::Office(Fault::Memory), err)
+    }
+
+    fn record_text(&self, _alloc: Global) -> Result<String, AllocError> {
+        Err(AllocError)
     }
 }
 

@@ -166,6 +166,7 @@ const refreshOnce = async (isForced) => {
     if (isFirst) route(); else if (isChanged || isForced) await draw();
   }
   drawHealth();
+  if (!office.down) readRecord();
 };
 
 // Reads all wards, and draws the section again if anything changed.

@@ -7,6 +7,24 @@ const MOST_SHOWN = 100;
 
 const receiptFilter = {search: '', actor: '', most: MOST_SHOWN};
 
+// How often the office is asked for its second record: each order, also this one, empties what it has cached of its responses.
+const RECORD_AFTER = 60000;
+
+// What the office last said of its second record, line by line, and when it was asked. The first line says where it is; any others warn.
+const recording = {lines: [], at: -RECORD_AFTER};
+
+const recordText = () => recording.lines.map(said).join(' ');
+
+// Shows where the second record is. Asks the office for that, unless it was asked within the last minute.
+const readRecord = async () => {
+  if (Date.now() - recording.at < RECORD_AFTER) return;
+  recording.at = Date.now();
+  const {output, why} = await outputOf('record');
+  recording.lines = why ? [] : output.trimEnd().split('\n');
+  at('recorded').className = recording.lines.length > 1 ? 'down' : '';
+  at('recorded').textContent = recordText();
+};
+
 const makeCopy = async () => {
   const name = `copy-${timeText()}.db`;
   await order(`make the copy ${name}`, ['copy', name]);
@@ -17,6 +35,7 @@ const drawCopies = () => {
   const made_ = stored('log', []).filter((it) => it.words.startsWith('copy ') && it.status === 0).slice(0, 5);
   fill(at('copies'),
     made('p', {className: 'said'}, copy ? `Last copy: ${ago(copy.at)}` : 'No copy made from this browser yet'),
+    made('p', {}, recordText()),
     made('p', {}, 'A copy is stored in the same folder as the office\u2019s file. Move it to another disk or a USB stick, so that it is safe if this computer fails.'),
     made('p', {className: 'acts'}, button('Make a copy', makeCopy, {main: true, key: 'copy'})),
     made('ul', {}, ...made_.map((it) => made('li', {}, made('code', {}, it.words.slice(5)), ` at ${clock(it.at)}: ${it.reply.trim()}`))));

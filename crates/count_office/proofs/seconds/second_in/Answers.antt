@@ -1,33 +1,19 @@
--- Proof that `second_in` meets its contract: both databases in memory are empty, and their disks are clean.
-use Rattle.std.proofs.Common.{inl, inr, refl}
-use Rattle.sqlite.specs.Held.{state}
-use Rattle.tables.proofs.ReadLemmas.{only_reads_itself}
+-- Proof that `second_in` meets its contract: whatever the folder has at the path is a file.
+use Rattle.std.proofs.Common.{List, ℕ, inl, inr}
+use Rattle.register.specs.Offices.{OfficeState}
 use Rattle.tables.specs.declared.fault.Fault.TheVariants.{Memory}
-use Rattle.office.specs.Answers.{WhenOpenAt}
+use Rattle.desk.specs.Folders.{Folder}
+use Rattle.desk.specs.Pages.{Page}
 use Rattle.desk.specs.Seconds.{IsSecondPage}
 use Rattle.desk.specs.declared.lines.Failure.TheVariants.{Office}
-use Rattle.count_office.proofs.MemoryLemmas.{memory_is_blank, memory_is_clean}
-use Rattle.count_office.proofs.MendLemmas.{mend_failed}
+use Rattle.server.specs.ServedOrders.{IsSecondIn}
 use Rattle.count_office.proofs.seconds.second_in.Goals as goal
 
-pub returns-in-Err-clause-told : goal.returns-in-Err-clause-told
-returns-in-Err-clause-told g c =
-    mend_failed g.O.Sink.taken g.O.Sink.failed g.E.Sink.taken g.E.Sink.failed
-    (λ page. WhenOpenAt (state g.S.Store) c.args.office.now c.args.office.now (λ s. IsSecondPage s c.args.path.now page)) (Office Memory) c.args.out.now c.args.err.now
-    c.tell_failure.new.err c.tell_failure.result (λ clean was s at. inr (Office Memory, refl)) c.tell_failure.ensures
-
-pub returns-in-Err-clause-reads : goal.returns-in-Err-clause-reads
-returns-in-Err-clause-reads g c = only_reads_itself (state g.S.Store c.args.office.now.held)
+second_page : (folder : Folder) (s : OfficeState) (path : List ℕ) (page : Page) → IsSecondIn folder s path page → IsSecondPage s path page
+second_page folder s path page (inl (file, at, told)) = inl (file, told)
+second_page folder s path page (inr failing) = inr (Office Memory, failing)
 
 pub returns-clause-told : goal.returns-clause-told
 returns-clause-told g c =
-    let told = c.second_open-status.ensures.told in
-    record {
-      page = told.page;
-      cut = told.cut;
-      shown = told.shown;
-      is = λ clean was s at.
-          let it = told.is clean was s at (memory_is_clean c.second_open-status.result.1.same) (memory_is_clean c.second_open-status.result.1.other)
-          (memory_is_blank c.in-Ok.trial.same c.in-Ok.ensures.0) (memory_is_blank c.in-Ok.trial.other c.in-Ok.ensures.1) in
-          inl (it.0, it.2);
-    }
+    let told = c.second_served.ensures.told in
+    record { page = told.page; cut = told.cut; shown = told.shown; is = λ clean was s at. second_page _ s c.args.path.now told.page (told.is clean was s at) }

@@ -2,6 +2,7 @@
 use Rattle.std.proofs.Common.{◌∙◌, refl, sym}
 use Rattle.desk.specs.Pages.{failed}
 use Rattle.desk.proofs.PageLemmas.{error_shown}
+use Rattle.server.proofs.OrderLemmas.{any_described}
 use Rattle.server.proofs.order_response.do_open.Goals as goal
 
 pub returns-in-Refused-clause-did : goal.returns-in-Refused-clause-did
@@ -19,6 +20,24 @@ pub returns-in-Mend-clause-did : goal.returns-in-Mend-clause-did
 returns-in-Mend-clause-did g c =
     let told = c.mend_for_order.ensures.told in
     record { page = told.page; cut = told.cut; shown = told.shown; is = λ clean is_open s at. let it = told.is clean is_open s at in rw c.in-Mend.is (it.0, it.1, refl) }
+
+pub returns-in-Second-clause-did : goal.returns-in-Second-clause-did
+returns-in-Second-clause-did g c =
+    let told = c.second.ensures.told in
+    record { page = told.page; cut = told.cut; shown = told.shown; is = λ clean is_open s at. rw c.in-Second.is (told.is clean is_open s at, c.second.ensures.stays clean is_open s at, refl) }
+
+pub returns-in-Record-clause-did : goal.returns-in-Record-clause-did
+returns-in-Record-clause-did g c =
+    let told = c.tell_record.ensures in
+    record {
+      page = told.page;
+      cut = told.cut;
+      shown = told.shown;
+      is = λ clean is_open s at. rw c.in-Record.is (any_described _ _ _ told.is, record { is_open = is_open; at = at }, refl);
+    }
+
+pub returns-in-Record-clause-recorded : goal.returns-in-Record-clause-recorded
+returns-in-Record-clause-recorded g c = λ asks. c.tell_record.ensures
 
 pub returns-in-Copy-clause-did : goal.returns-in-Copy-clause-did
 returns-in-Copy-clause-did g c =

@@ -20,6 +20,14 @@ pub returns-in-Journal : goal.returns-in-Journal
 returns-in-Journal g c =
     rw c.in-Journal.is (error_shown g.O.Sink.taken g.O.Sink.failed g.E.Sink.taken g.E.Sink.failed _ _ _ closed_page c.tell_failure-in-Journal.result refl c.tell_failure-in-Journal.ensures)
 
+pub returns-in-Second : goal.returns-in-Second
+returns-in-Second g c =
+    rw c.in-Second.is (error_shown g.O.Sink.taken g.O.Sink.failed g.E.Sink.taken g.E.Sink.failed _ _ _ closed_page c.tell_failure-in-Second.result refl c.tell_failure-in-Second.ensures)
+
+pub returns-in-Record : goal.returns-in-Record
+returns-in-Record g c =
+    rw c.in-Record.is (error_shown g.O.Sink.taken g.O.Sink.failed g.E.Sink.taken g.E.Sink.failed _ _ _ closed_page c.tell_failure-in-Record.result refl c.tell_failure-in-Record.ensures)
+
 pub returns-in-Mend : goal.returns-in-Mend
 returns-in-Mend g c =
     rw c.in-Mend.is (error_shown g.O.Sink.taken g.O.Sink.failed g.E.Sink.taken g.E.Sink.failed _ _ _ closed_page c.tell_failure-in-Mend.result refl c.tell_failure-in-Mend.ensures)

@@ -1,0 +1,13 @@
+-- Why it is told that there is no memory for a comparison with a second record.
+use Rattle.std.proofs.Common.{inr, refl}
+use Rattle.tables.specs.declared.fault.Fault.TheVariants.{Memory}
+use Rattle.desk.specs.Pages.{failed}
+use Rattle.desk.specs.declared.lines.Failure.TheVariants.{Office}
+use Rattle.desk.proofs.PageLemmas.{error_shown}
+use Rattle.store_tests.proofs.steps.UnaidedServedFile.second.Goals as goal
+
+pub returns-clause-told : goal.returns-clause-told
+returns-clause-told g c =
+    let page = failed (Office Memory) in
+    let told = error_shown g.O.Sink.taken g.O.Sink.failed g.E.Sink.taken g.E.Sink.failed c.args._out.now c.args.err.now c.tell_failure.new.err page c.tell_failure.result refl c.tell_failure.ensures in
+    record { page = page; cut = told.0; shown = told.1; is = λ clean was s at. inr refl }
