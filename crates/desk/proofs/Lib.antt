@@ -30,8 +30,10 @@ mod FormLemmas
 mod MendLemmas
 mod WholeLineLemmas
 mod SecondLemmas
+mod ContentForms
 mod ContentLemmas
 mod ScriptRecordLemmas
 mod SameLemmas
 mod ScriptContinues
 mod RequestLemmas
+mod RequestsRead

@@ -184,3 +184,21 @@ pub same_number : (text : Text) (one other : List Request) → IsScriptOf text o
 same_number text one other script also =
     sym (as_many_requests script.turns one script.sends) ∙ (as_many_turns (script_lines text) script.turns script.script
     ∙ (sym (as_many_turns (script_lines text) also.turns also.script) ∙ as_many_requests also.turns other also.sends))
+
+-- ---- what a script of one request sends
+
+-- all single requests of which a text is the script have the same actor and id, and ask for the same
+pub same_request : (text : Text) (one other : Request) → IsScriptOf text (one ∷ []) → IsScriptOf text (other ∷ []) → sent_as one ≡ sent_as other
+same_request text one other script also = by (script_lines text) script.turns also.turns script.script also.script script.sends also.sends
+  where
+    by : (lines : List Typed) (turns others : List ScriptStep) → AreTurns lines turns → AreTurns lines others → AreSent turns (one ∷ []) → AreSent others (other ∷ []) → sent_as one ≡ sent_as other
+    by [] turns others none none_too sent sent_too =
+        let bad : [] ≡ errand.Send one ∷ [] = ap (map (λ (t : ScriptStep). t.errand)) (sym none) ∙ sent in absurd (cc bad)
+    by (line ∷ lines) turns others (turn, later, is, step, are) (second, later_too, is_too, step_too, are_too) sent sent_too =
+        let first : turn.errand ∷ map (λ (t : ScriptStep). t.errand) later ≡ errand.Send one ∷ [] = ap (map (λ (t : ScriptStep). t.errand)) (sym is) ∙ sent in
+        let next : second.errand ∷ map (λ (t : ScriptStep). t.errand) later_too ≡ errand.Send other ∷ [] = ap (map (λ (t : ScriptStep). t.errand)) (sym is_too) ∙ sent_too in
+        let here : turn.errand ≡ errand.Send one = cc first in
+        let there : second.errand ≡ errand.Send other = cc next in
+        let same : told_errand turn.errand ≡ told_errand second.errand = one_meaning line.words turn.errand second.errand step.means step_too.means in
+        let both : send (sent_as one) ≡ send (sent_as other) = ap told_errand (sym here) ∙ (same ∙ ap told_errand there) in
+        cc both

@@ -142,7 +142,7 @@ pub(crate) fn passes_over(line: &[u8]) -> bool
 }
 
 /// Returns a text without its byte order mark, if it has one.
-fn behind_byte_order_mark(text: &[u8]) -> &[u8]
+pub(crate) fn behind_byte_order_mark(text: &[u8]) -> &[u8]
     ensures { result.now ≡ behind_byte_order_mark text.now }
 {
     match text {

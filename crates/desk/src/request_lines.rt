@@ -2,11 +2,14 @@
 //!
 //! Each line is parsed again before it is used, so nothing that is promised of it depends on how it was written.
 
-ghost use Rattle.std.specs.Prelude.{◌≡◌, string_bytes, true, IfOk, IfSome};
-ghost use Rattle.desk.specs.RequestLines.{IsComment, IsEntryOf, IsLineOf, IsWholeLine};
+ghost use Rattle.std.specs.Prelude.{◌≡◌, ◌++◌, ℕ, false, string_bytes, true, IfNone, IfOk, IfSome, OnOk};
+ghost use Rattle.register.specs.declared.command.Command.TheVariants as commands;
+ghost use Rattle.desk.specs.Orders.{asked_by, sent_as};
+ghost use Rattle.desk.specs.RequestLines.{HasNoLine, IsComment, IsEntryOf, IsLineOf, IsWholeLine, line_asking, line_text};
 
 use crate::journal::words::{put_comment, put_id, put_line, put_named_line};
 use crate::journal_check::requests_in;
+use crate::lexer::behind_byte_order_mark;
 use crate::same_requests::is_same_request;
 use register::{
     BatchCommand, CandidateCommand, Command, CountCommand, KeyingCommand, Request, Verdict,
@@ -22,7 +25,9 @@ fn put_ward(
     text: &mut String,
     id: &str,
     command: &WardCommand,
-) -> Result<(), AllocError> {
+) -> Result<(), AllocError>
+    ensures { (actor : ℕ) → OnOk result (string_bytes text.new ≡ string_bytes text.old ++ line_asking actor id.now (asked_by (commands.Ward command.now))) }
+{
     match command {
         WardCommand::Add { ward, seats, name } => {
             let words = format!(in alloc; "ward {ward} {seats}")?;
@@ -41,7 +46,9 @@ fn put_candidate(
     text: &mut String,
     id: &str,
     command: &CandidateCommand,
-) -> Result<(), AllocError> {
+) -> Result<(), AllocError>
+    ensures { (actor : ℕ) → OnOk result (string_bytes text.new ≡ string_bytes text.old ++ line_asking actor id.now (asked_by (commands.Candidate command.now))) }
+{
     match command {
         CandidateCommand::Add {
             ward,
@@ -64,7 +71,9 @@ fn put_batch(
     text: &mut String,
     id: &str,
     command: &BatchCommand,
-) -> Result<(), AllocError> {
+) -> Result<(), AllocError>
+    ensures { (actor : ℕ) → OnOk result (string_bytes text.new ≡ string_bytes text.old ++ line_asking actor id.now (asked_by (commands.Batch command.now))) }
+{
     let words = match command {
         BatchCommand::Add {
             batch,
@@ -79,13 +88,16 @@ fn put_batch(
     put_line(text, words.as_str(), id)
 }
 
+#[tactic(auto, unfolding(crate::specs::RequestLines::keying_line))]
 /// Appends the line of an order that stores a clerk's keying.
 fn put_keying(
     alloc: Global,
     text: &mut String,
     request: &Request,
     keying: &KeyingCommand,
-) -> Result<(), AllocError> {
+) -> Result<(), AllocError>
+    ensures { OnOk result (string_bytes text.new ≡ string_bytes text.old ++ line_asking request.now.actor (string_bytes request.now.id) (asked_by (commands.Keying keying.now))) }
+{
     let (clerk, batch, round) = (request.actor, keying.batch, keying.round);
     let words = format!(in alloc; "key {clerk} {batch} {round}")?;
     text.push_str(words.as_str())?;
@@ -103,7 +115,9 @@ fn put_verdict(
     text: &mut String,
     id: &str,
     command: &VerdictCommand,
-) -> Result<(), AllocError> {
+) -> Result<(), AllocError>
+    ensures { (actor : ℕ) → OnOk result (string_bytes text.new ≡ string_bytes text.old ++ line_asking actor id.now (asked_by (commands.Verdict command.now))) }
+{
     let (batch, paper) = (command.batch, command.paper);
     let words = match &command.verdict {
         Verdict::Accept(marks) => format!(in alloc; "judge {batch} {paper} accept:{marks}")?,
@@ -118,7 +132,9 @@ fn put_count(
     text: &mut String,
     id: &str,
     command: &CountCommand,
-) -> Result<(), AllocError> {
+) -> Result<(), AllocError>
+    ensures { (actor : ℕ) → OnOk result (string_bytes text.new ≡ string_bytes text.old ++ line_asking actor id.now (asked_by (commands.Count command.now))) }
+{
     let words = match command {
         CountCommand::Seal { ward } => format!(in alloc; "seal {ward}")?,
         CountCommand::Advance { ward } => format!(in alloc; "advance {ward}")?,
@@ -133,7 +149,9 @@ fn put_count(
 }
 
 /// Appends the line of the order that sends a request.
-fn put_request(alloc: Global, text: &mut String, request: &Request) -> Result<(), AllocError> {
+fn put_request(alloc: Global, text: &mut String, request: &Request) -> Result<(), AllocError>
+    ensures { OnOk result (string_bytes text.new ≡ string_bytes text.old ++ line_text (sent_as request.now)) }
+{
     let id = request.id.as_str();
     match &request.command {
         Command::Ward(command) => put_ward(alloc, text, id, command),
@@ -147,22 +165,23 @@ fn put_request(alloc: Global, text: &mut String, request: &Request) -> Result<()
 
 // ---- parsing it again
 
-/// Returns true only if a text is one whole line of a script.
+/// Returns whether a text is one whole line of a script.
 fn is_whole_line(text: &str) -> bool
-    ensures { result ≡ true → IsWholeLine text.now }
+    ensures whole { result ≡ true → IsWholeLine text.now }
+    ensures also { IsWholeLine text.now → result ≡ true }
 {
-    match text.as_bytes().split_last() {
-        Some((last, words)) => {
-            let unmarked = words.first() != Some(&239);
-            (*last == b'\n') & (unmarked & !words.contains(&b'\n'))
-        }
-        None => false,
-    }
+    let bytes = text.as_bytes();
+    let Some((last, words)) = bytes.split_last() else {
+        return false;
+    };
+    let unmarked = behind_byte_order_mark(bytes).len() == bytes.len();
+    (*last == b'\n') & (unmarked & !words.contains(&b'\n'))
 }
 
-/// Returns true only if a text is one whole line that sends the given request.
+/// Returns whether a text is one whole line that sends the given request.
 fn is_line_of(alloc: Global, text: &str, request: &Request) -> Result<bool, AllocError>
-    ensures { IfOk result (λ is. is ≡ true → IsLineOf text.now request.now) }
+    ensures sends { IfOk result (λ is. is ≡ true → IsLineOf text.now request.now) }
+    ensures other { IfOk result (λ is. is ≡ false → IsLineOf text.now request.now → ⊥) }
 {
     let Some(requests) = requests_in(alloc, text)? else {
         return Ok(false);
@@ -175,10 +194,11 @@ fn is_line_of(alloc: Global, text: &str, request: &Request) -> Result<bool, Allo
 
 /// Returns the line of a script that sends a request, and that sends nothing else. It ends in a newline.
 ///
-/// Returns None if the line that was written, parsed again, doesn't send the request. Nothing guarantees that this never happens; it
-/// does for a request that no order sends, such as a withdrawal by a clerk.
+/// Returns None only if the line that was written, parsed again, doesn't send the request, as for a request that no order sends, such as
+/// a withdrawal by a clerk.
 pub(crate) fn line_of(alloc: Global, request: &Request) -> Result<Option<String>, AllocError>
     ensures says { IfOk result (λ found. IfSome found (λ line. IsLineOf (string_bytes line) request.now)) }
+    ensures none { IfOk result (λ found. IfNone found (HasNoLine request.now)) }
 {
     let mut line = String::new(alloc);
     put_request(alloc, &mut line, request)?;
@@ -224,7 +244,8 @@ pub(crate) fn entry_of(
     says: &str,
     request: &Request,
 ) -> Result<Option<String>, AllocError>
-    ensures { IfOk result (λ found. IfSome found (λ text. IsEntryOf (string_bytes text) request.now)) }
+    ensures some { IfOk result (λ found. IfSome found (λ text. IsEntryOf (string_bytes text) request.now)) }
+    ensures none { IfOk result (λ found. IfNone found (HasNoLine request.now)) }
 {
     let mut text = comment_of(alloc, says)?;
     match line_of(alloc, request)? {

@@ -1,8 +1,9 @@
 //! Compares the content of requests.
 
-ghost use Rattle.std.specs.Prelude.{◌≡◌, map, string_bytes, true};
-ghost use Rattle.register.specs.declared.command.Command.TheVariants as command;
-ghost use Rattle.desk.specs.Orders.{asked_by, sent_as};
+ghost use Rattle.std.specs.Prelude.{◌≡◌, map, option_map, string_bytes, true};
+ghost use Rattle.register.specs.declared.command.Command.TheVariants as commands;
+ghost use Rattle.desk.specs.Contents.{content_entry, content_of, plain, three, with_text};
+ghost use Rattle.desk.specs.Orders.{asked_by, paper_to_judge, sent_as};
 ghost use Rattle.desk.specs.Verdicts.{judgement_given};
 
 use register::{
@@ -10,9 +11,175 @@ use register::{
     VerdictCommand, WardCommand,
 };
 
-/// Returns true only if two lists contain the same texts.
+/// Up to five numbers that a command names; the others are 0.
+#[derive(Clone, Copy)]
+struct Numbers {
+    first: u32,
+    second: u32,
+    third: u32,
+    fourth: u32,
+    fifth: u32,
+}
+
+/// What a command asks for, in one form for all commands.
+#[derive(Drop)]
+struct Content<'a> {
+    kind: u8,
+    numbers: Numbers,
+    text: &'a str,
+    papers: Option<&'a [String]>,
+}
+
+// ---- what a command asks for
+
+/// Returns up to three numbers.
+fn three(first: u32, second: u32, third: u32) -> Numbers
+    ensures { result ≡ three first second third }
+{
+    Numbers {
+        first,
+        second,
+        third,
+        fourth: 0,
+        fifth: 0,
+    }
+}
+
+/// Returns the content of a command that names nothing but numbers.
+fn plain<'a>(kind: u8, numbers: Numbers) -> Content<'a>
+    ensures { content_entry result ≡ plain kind numbers }
+{
+    Content {
+        kind,
+        numbers,
+        text: "",
+        papers: None,
+    }
+}
+
+/// Returns the content of a command that names numbers and a text.
+fn with_text(kind: u8, numbers: Numbers, text: &str) -> Content<'_>
+    ensures { content_entry result ≡ with_text kind numbers text.now }
+{
+    Content {
+        kind,
+        numbers,
+        text,
+        papers: None,
+    }
+}
+
+/// Returns the content of a command for a ward.
+fn content_of_ward(command: &WardCommand) -> Content<'_>
+    ensures { content_entry result ≡ content_of (asked_by (commands.Ward command.now)) }
+{
+    match command {
+        WardCommand::Add { ward, seats, name } => {
+            with_text(0, three(*ward, *seats, 0), name.as_str())
+        }
+        WardCommand::Close { ward } => plain(1, three(*ward, 0, 0)),
+    }
+}
+
+/// Returns the content of a command for a candidate.
+fn content_of_candidate(command: &CandidateCommand) -> Content<'_>
+    ensures { content_entry result ≡ content_of (asked_by (commands.Candidate command.now)) }
+{
+    match command {
+        CandidateCommand::Add {
+            ward,
+            candidate,
+            name,
+        } => with_text(2, three(*ward, *candidate, 0), name.as_str()),
+        CandidateCommand::Withdraw { ward, candidate } => plain(3, three(*ward, *candidate, 0)),
+    }
+}
+
+/// Returns the content of a command for a batch.
+fn content_of_batch(command: &BatchCommand) -> Content<'_>
+    ensures { content_entry result ≡ content_of (asked_by (commands.Batch command.now)) }
+{
+    match command {
+        BatchCommand::Add {
+            batch,
+            ward,
+            size,
+            first_clerk,
+            second_clerk,
+        } => {
+            let numbers = Numbers {
+                first: *batch,
+                second: *ward,
+                third: *size,
+                fourth: *first_clerk,
+                fifth: *second_clerk,
+            };
+            plain(4, numbers)
+        }
+        BatchCommand::Again { batch } => plain(5, three(*batch, 0, 0)),
+        BatchCommand::Third { batch, clerk } => plain(6, three(*batch, *clerk, 0)),
+    }
+}
+
+/// Returns the content of a keying.
+fn content_of_keying(command: &KeyingCommand) -> Content<'_>
+    ensures { content_entry result ≡ content_of (asked_by (commands.Keying command.now)) }
+{
+    Content {
+        kind: 7,
+        numbers: three(command.batch, command.round, 0),
+        text: "",
+        papers: Some(command.papers.as_slice()),
+    }
+}
+
+/// Returns the content of a verdict on a paper.
+fn content_of_verdict(command: &VerdictCommand) -> Content<'_>
+    ensures { content_entry result ≡ content_of (asked_by (commands.Verdict command.now)) }
+{
+    let (batch, paper) = (command.batch, command.paper);
+    match &command.verdict {
+        Verdict::Accept(marks) => with_text(8, three(batch, paper, 0), marks.as_str()),
+        Verdict::Reject(code) => plain(9, three(batch, paper, *code)),
+    }
+}
+
+/// Returns the content of a command for a count.
+fn content_of_count(command: &CountCommand) -> Content<'_>
+    ensures { content_entry result ≡ content_of (asked_by (commands.Count command.now)) }
+{
+    match command {
+        CountCommand::Seal { ward } => plain(10, three(*ward, 0, 0)),
+        CountCommand::Advance { ward } => plain(11, three(*ward, 0, 0)),
+        CountCommand::Lot {
+            ward,
+            stage,
+            candidate,
+        } => plain(12, three(*ward, *stage, *candidate)),
+        CountCommand::Declare { ward } => plain(13, three(*ward, 0, 0)),
+    }
+}
+
+/// Returns the content of a command.
+fn content_of(command: &Command) -> Content<'_>
+    ensures { content_entry result ≡ content_of (asked_by command.now) }
+{
+    match command {
+        Command::Ward(command) => content_of_ward(command),
+        Command::Candidate(command) => content_of_candidate(command),
+        Command::Batch(command) => content_of_batch(command),
+        Command::Keying(command) => content_of_keying(command),
+        Command::Verdict(command) => content_of_verdict(command),
+        Command::Count(command) => content_of_count(command),
+    }
+}
+
+// ---- whether two ask for the same
+
+/// Returns whether two lists contain the same texts.
 fn are_same_texts(texts: &[String], others: &[String]) -> bool
-    ensures { result ≡ true → map string_bytes texts.now ≡ map string_bytes others.now }
+    ensures same { result ≡ true → map string_bytes texts.now ≡ map string_bytes others.now }
+    ensures also { map string_bytes texts.now ≡ map string_bytes others.now → result ≡ true }
 {
     if texts.len() != others.len() {
         return false;
@@ -25,172 +192,47 @@ fn are_same_texts(texts: &[String], others: &[String]) -> bool
     true
 }
 
-/// Returns true only if two commands for a ward ask for the same.
-fn is_same_ward_command(one: &WardCommand, other: &WardCommand) -> bool
-    ensures { result ≡ true → asked_by (command.Ward one.now) ≡ asked_by (command.Ward other.now) }
+/// Returns whether the texts of two lists of papers are the same, or there are none.
+fn are_same_papers(one: Option<&[String]>, other: Option<&[String]>) -> bool
+    ensures same { result ≡ true → option_map (λ papers. map string_bytes papers.now) one.entry ≡ option_map (λ papers. map string_bytes papers.now) other.entry }
+    ensures also { option_map (λ papers. map string_bytes papers.now) one.entry ≡ option_map (λ papers. map string_bytes papers.now) other.entry → result ≡ true }
 {
-    match (one, other) {
-        (
-            WardCommand::Add { ward, seats, name },
-            WardCommand::Add {
-                ward: other_ward,
-                seats: other_seats,
-                name: other_name,
-            },
-        ) => {
-            (ward == other_ward) & ((seats == other_seats) & (name.as_str() == other_name.as_str()))
-        }
-        (WardCommand::Close { ward }, WardCommand::Close { ward: other_ward }) => {
-            ward == other_ward
-        }
-        _ => false,
+    match one {
+        Some(texts) => match other {
+            Some(others) => are_same_texts(texts, others),
+            None => false,
+        },
+        None => other.is_none(),
     }
 }
 
-/// Returns true only if two commands for a candidate ask for the same.
-fn is_same_candidate_command(one: &CandidateCommand, other: &CandidateCommand) -> bool
-    ensures { result ≡ true → asked_by (command.Candidate one.now) ≡ asked_by (command.Candidate other.now) }
+/// Returns whether the numbers are the same.
+fn are_same_numbers(one: Numbers, other: Numbers) -> bool
+    ensures same { result ≡ true → one ≡ other }
+    ensures also { one ≡ other → result ≡ true }
 {
-    match (one, other) {
-        (
-            CandidateCommand::Add {
-                ward,
-                candidate,
-                name,
-            },
-            CandidateCommand::Add {
-                ward: other_ward,
-                candidate: other_candidate,
-                name: other_name,
-            },
-        ) => {
-            (ward == other_ward)
-                & ((candidate == other_candidate) & (name.as_str() == other_name.as_str()))
-        }
-        (
-            CandidateCommand::Withdraw { ward, candidate },
-            CandidateCommand::Withdraw {
-                ward: other_ward,
-                candidate: other_candidate,
-            },
-        ) => (ward == other_ward) & (candidate == other_candidate),
-        _ => false,
-    }
+    let ends = (one.fourth == other.fourth) & (one.fifth == other.fifth);
+    (one.first == other.first)
+        & ((one.second == other.second) & ((one.third == other.third) & ends))
 }
 
-/// Returns true only if two commands for a batch ask for the same.
-fn is_same_batch_command(one: &BatchCommand, other: &BatchCommand) -> bool
-    ensures { result ≡ true → asked_by (command.Batch one.now) ≡ asked_by (command.Batch other.now) }
+/// Returns whether two commands ask for the same.
+fn is_same_content(one: &Content<'_>, other: &Content<'_>) -> bool
+    ensures same { result ≡ true → content_entry one.now ≡ content_entry other.now }
+    ensures also { content_entry one.now ≡ content_entry other.now → result ≡ true }
 {
-    match (one, other) {
-        (
-            BatchCommand::Add {
-                batch,
-                ward,
-                size,
-                first_clerk,
-                second_clerk,
-            },
-            BatchCommand::Add {
-                batch: other_batch,
-                ward: other_ward,
-                size: other_size,
-                first_clerk: other_first,
-                second_clerk: other_second,
-            },
-        ) => {
-            let clerks = (first_clerk == other_first) & (second_clerk == other_second);
-            (batch == other_batch) & ((ward == other_ward) & ((size == other_size) & clerks))
-        }
-        (BatchCommand::Again { batch }, BatchCommand::Again { batch: other_batch }) => {
-            batch == other_batch
-        }
-        (
-            BatchCommand::Third { batch, clerk },
-            BatchCommand::Third {
-                batch: other_batch,
-                clerk: other_clerk,
-            },
-        ) => (batch == other_batch) & (clerk == other_clerk),
-        _ => false,
-    }
+    let numbers = are_same_numbers(one.numbers, other.numbers);
+    let papers = are_same_papers(one.papers, other.papers);
+    (one.kind == other.kind) & (numbers & ((one.text == other.text) & papers))
 }
 
-/// Returns true only if two keyings are of the same batch and round, and have the same papers.
-fn is_same_keying(one: &KeyingCommand, other: &KeyingCommand) -> bool
-    ensures { result ≡ true → asked_by (command.Keying one.now) ≡ asked_by (command.Keying other.now) }
-{
-    let batches = one.batch == other.batch;
-    let rounds = one.round == other.round;
-    batches & (rounds & are_same_texts(&one.papers, &other.papers))
-}
-
-/// Returns true only if two verdicts are the same.
-fn is_same_verdict(one: &Verdict, other: &Verdict) -> bool
-    ensures { result ≡ true → judgement_given one.now ≡ judgement_given other.now }
-{
-    match (one, other) {
-        (Verdict::Accept(marks), Verdict::Accept(others)) => marks.as_str() == others.as_str(),
-        (Verdict::Reject(code), Verdict::Reject(other)) => code == other,
-        _ => false,
-    }
-}
-
-/// Returns true only if two commands have the same verdict on the same paper.
-fn is_same_verdict_command(one: &VerdictCommand, other: &VerdictCommand) -> bool
-    ensures { result ≡ true → asked_by (command.Verdict one.now) ≡ asked_by (command.Verdict other.now) }
-{
-    let batches = one.batch == other.batch;
-    let papers = one.paper == other.paper;
-    batches & (papers & is_same_verdict(&one.verdict, &other.verdict))
-}
-
-/// Returns true only if two commands for a count ask for the same.
-fn is_same_count_command(one: &CountCommand, other: &CountCommand) -> bool
-    ensures { result ≡ true → asked_by (command.Count one.now) ≡ asked_by (command.Count other.now) }
-{
-    match (one, other) {
-        (CountCommand::Seal { ward }, CountCommand::Seal { ward: other }) => ward == other,
-        (CountCommand::Advance { ward }, CountCommand::Advance { ward: other }) => ward == other,
-        (
-            CountCommand::Lot {
-                ward,
-                stage,
-                candidate,
-            },
-            CountCommand::Lot {
-                ward: other_ward,
-                stage: other_stage,
-                candidate: other_candidate,
-            },
-        ) => { (ward == other_ward) & ((stage == other_stage) & (candidate == other_candidate)) }
-        (CountCommand::Declare { ward }, CountCommand::Declare { ward: other }) => ward == other,
-        _ => false,
-    }
-}
-
-/// Returns true only if two commands ask for the same.
-fn is_same_command(one: &Command, other: &Command) -> bool
-    ensures { result ≡ true → asked_by one.now ≡ asked_by other.now }
-{
-    match (one, other) {
-        (Command::Ward(one), Command::Ward(other)) => is_same_ward_command(one, other),
-        (Command::Candidate(one), Command::Candidate(other)) => {
-            is_same_candidate_command(one, other)
-        }
-        (Command::Batch(one), Command::Batch(other)) => is_same_batch_command(one, other),
-        (Command::Keying(one), Command::Keying(other)) => is_same_keying(one, other),
-        (Command::Verdict(one), Command::Verdict(other)) => is_same_verdict_command(one, other),
-        (Command::Count(one), Command::Count(other)) => is_same_count_command(one, other),
-        _ => false,
-    }
-}
-
-/// Returns true only if two requests have the same actor and id, and ask for the same.
+/// Returns whether two requests have the same actor and id, and ask for the same.
 pub(crate) fn is_same_request(one: &Request, other: &Request) -> bool
-    ensures { result ≡ true → sent_as one.now ≡ sent_as other.now }
+    ensures same { result ≡ true → sent_as one.now ≡ sent_as other.now }
+    ensures also { sent_as one.now ≡ sent_as other.now → result ≡ true }
 {
     let actors = one.actor == other.actor;
     let ids = one.id.as_str() == other.id.as_str();
-    actors & (ids & is_same_command(&one.command, &other.command))
+    let asked = is_same_content(&content_of(&one.command), &content_of(&other.command));
+    actors & (ids & asked)
 }

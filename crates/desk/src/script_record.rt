@@ -3,6 +3,7 @@
 ghost use Rattle.std.specs.Prelude.{◌≡◌, false, is_err, Err, IfErr, IfSome, None, OnErr, OnOk, Option, Some, true};
 ghost use Rattle.register.specs.Offices.{OfficeState};
 ghost use Rattle.desk.specs.Records.{Appended, AppendsAll, AppendsSome, FlushesAll, IsRecordOf, Leaves, Records};
+ghost use Rattle.desk.specs.RequestLines.{HasNoLine};
 ghost use Rattle.desk.specs.ScriptRecords.{HoldsJournal, IsCauseOf, PutsAll, fault_of, file_of, has_failed};
 
 use crate::record::Recorder;
@@ -53,7 +54,7 @@ pub enum RecordFault {
     /// An allocation failed. Nothing was appended.
     #[error("out of memory for the second record")]
     Memory,
-    /// The request can't be written as a line of a script. Nothing was appended.
+    /// The request can't be written as a line of a script: the line that would be written doesn't send it. Nothing was appended.
     #[error("a request has no line for the second record")]
     NoLine,
 }
@@ -118,6 +119,7 @@ impl<W: DurableSink> ScriptRecord<W> {
     fn write(&mut self, request: &Request) -> Result<(), RecordFault>
         ensures recorded { Records request.now (Leaves (W.kept (file_of self.old))) (Leaves (W.kept (file_of self.new))) (is_err result) }
         ensures cause { IfErr result (λ fault. IsCauseOf W.broken fault (file_of self.old) (file_of self.new)) }
+        ensures no_line { IfErr result (λ fault. fault ≡ RecordFault.NoLine → HasNoLine request.now) }
         ensures fault { fault_of self.new ≡ fault_of self.old }
     {
         let text = match entry_of(self.alloc, self.comment.as_str(), request) {
@@ -141,6 +143,7 @@ impl<W: DurableSink> ScriptRecord<W> {
         ensures ok { OnOk result ((has_failed self.old ≡ false) × (has_failed self.new ≡ false)) }
         ensures err { IfErr result (λ fault. fault_of self.new ≡ Some fault) }
         ensures cause { has_failed self.old ≡ false → IfErr result (λ fault. IsCauseOf W.broken fault (file_of self.old) (file_of self.new)) }
+        ensures no_line { has_failed self.old ≡ false → IfErr result (λ fault. fault ≡ RecordFault.NoLine → HasNoLine request.now) }
         ensures again { IfSome (fault_of self.old) (λ fault. (result ≡ Err fault) × (file_of self.new ≡ file_of self.old)) }
     {
         if let Some(fault) = self.fault {
