@@ -91,12 +91,15 @@ play_input() {
     play - count ballots.txt
     play - count ballots.txt --declaration
     play - count --table ballots.txt
+    play - count --results ballots.txt
     play - count ballots.txt --ballots
     play - count tied.txt
     play - count tied.txt --declaration
     play - count tied.txt --lot 2:3
     play - count tied.txt --lot 2:3 --declaration
     play - count tied.txt --lot 2:3 --ballots
+    play - count tied.txt --results
+    play - count tied.txt --lot 2:3 --results
     (cd "$folder" && "$office" - count tied.txt --lot 2:3 --page --title 'Spring <1>' | grep -e '<title>' -e '"title"' -e Declared -e '<li>')
     play_input tied.txt - count - --lot 2:2 --declaration
     play_input sheet.txt - check ballots.txt -

@@ -6,7 +6,7 @@ source "$(dirname "$(readlink -f "${BASH_SOURCE[0]}")")/play.bash"
 {
     play --help
     for order in init ward candidate import-candidates withdraw close batch import-batches import-keying key again third judge seal advance count lot declare \
-        status next sheet result serve migrate wards batches doubtful differences papers fields receipts journal second replay copy mend switch codes forms ballots page table index; do
+        status next sheet result serve migrate wards batches doubtful differences papers fields receipts journal second replay copy mend switch codes forms ballots page table index publish; do
         play town.db "$order" --help
     done
     # without a database too

@@ -149,6 +149,8 @@ class Count:
 
     def __init__(self, ballots):
         self.ballots, self.stages, self.figures, self.lost = ballots, [], [], 0
+        # The stages as JSON shows them, and the stage at which a candidate was elected, or excluded.
+        self.told, self.stage_of = [], {}
         self.letters, self.votes = dict.fromkeys(ballots.names, "-"), dict.fromkeys([*ballots.names, None], 0)
         self.parcels = {number: [] for number in self.votes}
         # The quota: the papers divided by one more than the seats, the whole part of that, and one vote more.
@@ -232,6 +234,12 @@ class Count:
             if is_last or self.votes[number] >= self.quota:
                 self.letters[number] = "E"
         self.figures.append(dict(self.votes))
+        for number in self.those("Ex"):
+            self.stage_of.setdefault(number, len(self.figures))
+        what, _, concerned = action.removesuffix(", last vacancies").partition(" of ")
+        self.told.append({"stage": len(self.figures), "action": what + ", last vacancies" * action.endswith(", last vacancies"),
+                          "of": int(concerned) if concerned else None, "votes": [votes_text(self.votes[number]) for number in self.letters],
+                          "non_transferable": votes_text(self.votes[None]), "lost": votes_text(self.lost)})
         candidates = [f"{number:2} {votes_text(self.votes[number]):>13} {self.letters[number]} {name}"
                       for number, name in self.ballots.names.items()]
         self.stages.append(written([f"Stage {len(self.stages) + 1}: {action}", *candidates,
@@ -248,6 +256,21 @@ class Count:
     def declaration(self):
         lines = [f"{number:2} {self.ballots.names[number]}" for number in self.those("Ee" if self.is_contested else "-")]
         return written([f"Ward {self.ballots.ward} {self.ballots.ward_name}", "Elected", *lines])
+
+    def results(self):
+        """Returns the result as JSON, declared if the count is finished."""
+        poll, elected = self.is_contested, self.those("Ee" if self.is_contested else "-")
+        lots = {stage: number for stage, number in sorted(self.ballots.lots.items()) if poll}
+        told = {
+            "ward": self.ballots.ward, "name": self.ballots.ward_name, "seats": self.ballots.seats, "declared": not self.waits, "contested": poll,
+            "valid": self.valid if poll else None, "rejected": self.ballots.rejected if poll else None,
+            "quota": votes_text(self.quota) if poll else None,
+            "candidates": [{"number": number, "name": self.ballots.names[number], "elected": number in elected,
+                            "elected_at": self.stage_of.get(number) if letter in "Ee" else None,
+                            "excluded_at": self.stage_of.get(number) if letter == "x" else None} for number, letter in self.letters.items()],
+            "stages": self.told, "lots": [{"stage": stage, "candidate": number} for stage, number in lots.items()],
+        }
+        return written([json.dumps(told, ensure_ascii=False, separators=(",", ":"))])
 
 def counts(lines, choose):
     """Yields the count of the ballots of these lines; and again after each lot that it needs, which is chosen, and added to the lines."""

@@ -13,6 +13,7 @@ use Rattle.sheet.specs.Ballots.{ballots}
 use Rattle.sheet.specs.Entries.{SheetEntry}
 use Rattle.sheet.specs.Page.{page}
 use Rattle.sheet.specs.Sheet.{declaration, sheet}
+use Rattle.sheet.specs.Results.{results}
 use Rattle.sheet.specs.Spreadsheet.{spreadsheet}
 use Rattle.sheet.specs.declared.ward.Poll.{Poll}
 use Rattle.checker.specs.Checks.{EndsAt, IsWardProblem, dues_of, undrawn, undrawn_by}
@@ -113,12 +114,13 @@ abbrev pub lots_in : Option Poll → List (ℕ × ℕ) → List (ℕ × ℕ)
 lots_in None lots = []
 lots_in (Some poll) lots = lots
 
--- a text of a count: the stage sheet, the declaration, the page with the given title, the table, or the ballots with the lots
+-- a text of a count: the stage sheet, the declaration, the page with the given title, the table, the result as JSON, or the ballots with the lots
 pub data TextEntry : Type 0 where
   sheet_asked : TextEntry
   declaration_asked : TextEntry
   page_asked : Text → TextEntry
   table_asked : TextEntry
+  results_asked : TextEntry
   ballots_asked : TextEntry
 
 abbrev pub text_of : CountText → TextEntry
@@ -126,6 +128,7 @@ text_of text.Sheet = sheet_asked
 text_of text.Declaration = declaration_asked
 text_of (text.Page title) = page_asked title.now
 text_of text.Table = table_asked
+text_of text.Results = results_asked
 text_of text.Ballots = ballots_asked
 
 -- A text of a ward's count, as an office prints it for a ward with the given papers and lots. It covers the stages so far, or the ward as declared
@@ -135,6 +138,7 @@ text_shown sheet_asked ward bundles lots count = sheet ward count.stages.items
 text_shown declaration_asked ward bundles lots count = if is_finished count.end then declaration ward count.elected else []
 text_shown (page_asked title) ward bundles lots count = page ward title (is_finished count.end) count.stages.items (lots_in ward.poll lots)
 text_shown table_asked ward bundles lots count = spreadsheet ward count.stages.items
+text_shown results_asked ward bundles lots count = results ward (is_finished count.end) count.stages.items (lots_in ward.poll lots)
 text_shown ballots_asked ward bundles lots count = ballots ward bundles (lots_in ward.poll lots)
 
 -- ---- the lot that the count is waiting for

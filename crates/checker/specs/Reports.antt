@@ -127,7 +127,7 @@ abbrev pub words_text : WordsFlaw → Text
 words_text words.NoBallots = codes "error: give the path of the ballots; --help says more\n"
 words_text words.SecondBallots = codes "error: give one path, that of the ballots; --help says more\n"
 words_text words.UnknownOption = codes "error: there is no such option; --help says more\n"
-words_text words.SecondText = codes "error: give one of --declaration, --page, --table and --ballots; --help says more\n"
+words_text words.SecondText = codes "error: give one of --declaration, --page, --table, --results and --ballots; --help says more\n"
 words_text words.NoValue = codes "error: the last option needs a value; --help says more\n"
 words_text words.Lot = codes "error: give a lot as its stage and its candidate, such as --lot 3:4; --help says more\n"
 words_text words.TitleAlone = codes "error: only a page has a title: add --page; --help says more\n"

@@ -4,7 +4,7 @@ use Rattle.std.specs.Option.{option_and_then}
 use Rattle.paper.specs.Columns.{max_candidates}
 use Rattle.votes.specs.Units.{max_seats}
 use Rattle.checker.specs.BallotsComments.{is_word, small_in}
-use Rattle.checker.specs.Counts.{TextEntry, sheet_asked, declaration_asked, page_asked, table_asked, ballots_asked}
+use Rattle.checker.specs.Counts.{TextEntry, sheet_asked, declaration_asked, page_asked, table_asked, results_asked, ballots_asked}
 use Rattle.checker.specs.Names.{max_name}
 use Rattle.checker.specs.Records.{WardEntry}
 use Rattle.checker.specs.Tokens.{Text, pieces_of}
@@ -49,7 +49,8 @@ text_option word =
     if is_word (codes "--declaration") word then Some option.Declaration else (
     if is_word (codes "--page") word then Some option.Page else (
     if is_word (codes "--table") word then Some option.Table else (
-    if is_word (codes "--ballots") word then Some option.Ballots else None)))
+    if is_word (codes "--results") word then Some option.Results else (
+    if is_word (codes "--ballots") word then Some option.Ballots else None))))
 
 -- `3:4`: the stage and the candidate of a lot
 abbrev pub lot_of : List Text → Option (ℕ × ℕ)
@@ -170,11 +171,13 @@ text_asked None None = Ok sheet_asked
 text_asked (Some option.Declaration) None = Ok declaration_asked
 text_asked (Some option.Page) None = Ok (page_asked [])
 text_asked (Some option.Table) None = Ok table_asked
+text_asked (Some option.Results) None = Ok results_asked
 text_asked (Some option.Ballots) None = Ok ballots_asked
 text_asked None (Some title) = Err flaw.TitleAlone
 text_asked (Some option.Declaration) (Some title) = Err flaw.TitleAlone
 text_asked (Some option.Page) (Some title) = Ok (page_asked title)
 text_asked (Some option.Table) (Some title) = Err flaw.TitleAlone
+text_asked (Some option.Results) (Some title) = Err flaw.TitleAlone
 text_asked (Some option.Ballots) (Some title) = Err flaw.TitleAlone
 
 -- the form of the ballots; only cast-vote records need a number of seats, at most as many as a ward can have, and a name

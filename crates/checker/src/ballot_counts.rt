@@ -20,7 +20,7 @@ use crate::records::read_records;
 use crate::records_ward::RecordsWard;
 use crate::wards::{Election, candidates_of, ward_in};
 use count::CountEnd;
-use sheet::{ballots_text, declaration_text, page_text, sheet_text, spreadsheet_text};
+use sheet::{ballots_text, declaration_text, page_text, results_text, sheet_text, spreadsheet_text};
 use std::alloc::{AllocError, Global};
 
 /// A text of the count of a ward, as an office prints it.
@@ -34,6 +34,8 @@ pub enum CountText<'a> {
     Page(&'a str),
     /// The table of the stages for a spreadsheet.
     Table,
+    /// The result as JSON; it says that the ward is declared if its count is finished.
+    Results,
     /// The ballots and the lots.
     Ballots,
 }
@@ -113,6 +115,10 @@ fn text_of(
             )
         }
         CountText::Table => spreadsheet_text(alloc, ward, &count.stages),
+        CountText::Results => {
+            let is_declared = is_finished(count.end);
+            results_text(alloc, ward, is_declared, &count.stages, lots_in(election))
+        }
         CountText::Ballots => ballots_text(alloc, ward, election.bundles, lots_in(election)),
     }
 }
@@ -176,8 +182,8 @@ fn counted_as(
     }
 }
 
-/// Counts the ballots of a ward, and returns a text of the count: the stage sheet, the declaration, the page, the table, or the
-/// ballots and lots. It is the text that an office prints for a ward with exactly these papers and lots.
+/// Counts the ballots of a ward, and returns a text of the count: the stage sheet, the declaration, the page, the table, the
+/// result as JSON, or the ballots and lots. It is the text that an office prints for a ward with exactly these papers and lots.
 ///
 /// The ballots are read as for [`check`](crate::check). The further lots, each a stage, counted from 1, and a candidate, are added to
 /// those that the file records; no two may be for the same stage. If a lot is needed but missing, the text covers the stages so far,

@@ -22,7 +22,7 @@ pub(crate) const COUNT_HELP: &str =
     "Counts the ballots of a ward, without an office, and prints the stage sheet.
 
 Usage: count-office - count <BALLOTS> [--declaration | --page [--title <TEXT>] | --table |
-       --ballots] [--lot <STAGE>:<CANDIDATE>]..
+       --results | --ballots] [--lot <STAGE>:<CANDIDATE>]..
        [--seats <N> --name <TEXT> [--candidate <NAME>]..]
 
 Arguments:
@@ -34,6 +34,7 @@ Options:
   --page                     Print the page for a browser instead
   --title <TEXT>             The title above the page
   --table                    Print the table for a spreadsheet instead
+  --results                  Print the result as JSON instead
   --ballots                  Print the ballots and the lots instead
   --lot <STAGE>:<CANDIDATE>  A lot that the ballots don't record: its stage, and the number of
                              the candidate drawn; give one for each such stage

@@ -155,7 +155,7 @@ fn words_text(flaw: WordsFlaw) -> &'static str
         }
         WordsFlaw::UnknownOption => "error: there is no such option; --help says more\n",
         WordsFlaw::SecondText => {
-            "error: give one of --declaration, --page, --table and --ballots; --help says more\n"
+            "error: give one of --declaration, --page, --table, --results and --ballots; --help says more\n"
         }
         WordsFlaw::NoValue => "error: the last option needs a value; --help says more\n",
         WordsFlaw::Lot => {

@@ -39,6 +39,7 @@ pub(crate) enum TextOption {
     Declaration,
     Page,
     Table,
+    Results,
     Ballots,
 }
 
@@ -106,6 +107,9 @@ fn text_option(word: &str) -> Option<TextOption>
     }
     if word == "--table" {
         return Some(TextOption::Table);
+    }
+    if word == "--results" {
+        return Some(TextOption::Results);
     }
     if word == "--ballots" {
         return Some(TextOption::Ballots);
@@ -339,6 +343,7 @@ fn text_asked<'a>(
         (Some(TextOption::Declaration), None) => Ok(CountText::Declaration),
         (Some(TextOption::Page), None) => Ok(CountText::Page("")),
         (Some(TextOption::Table), None) => Ok(CountText::Table),
+        (Some(TextOption::Results), None) => Ok(CountText::Results),
         (Some(TextOption::Ballots), None) => Ok(CountText::Ballots),
     }
 }

@@ -20,6 +20,7 @@ use Rattle.console_page.specs.declared.script.nominations.TheConstants.{NOMINATI
 use Rattle.console_page.specs.declared.script.overview.TheConstants.{OVERVIEW}
 use Rattle.console_page.specs.declared.script.papers.TheConstants.{PAPERS}
 use Rattle.console_page.specs.declared.script.pending.TheConstants.{PENDING}
+use Rattle.console_page.specs.declared.script.publishing.TheConstants.{PUBLISHING}
 use Rattle.console_page.specs.declared.script.requests.TheConstants.{REQUESTS}
 use Rattle.console_page.specs.declared.script.sealing.TheConstants.{SEALING}
 use Rattle.console_page.specs.declared.script.switching.TheConstants.{SWITCHING}
@@ -32,7 +33,7 @@ unfoldable pub script : List ℕ
 script =
     BASICS.now ++ (ADVICE.now ++ (WORDS.now ++ (REQUESTS.now ++ (PAPERS.now ++ (PENDING.now ++ (DIALOGS.now ++ (FRAME.now ++ (OVERVIEW.now ++ (
     NOMINATIONS.now ++ (GIVING.now ++ (BATCHES.now ++ (KEYINGS.now ++ (ADJUDICATION.now ++ (VERDICTS.now ++ (SEALING.now ++ (
-    CHART.now ++ (COUNTING.now ++ (DECLARING.now ++ (MENDING.now ++ (SWITCHING.now ++ (JOURNAL.now ++ EVENTS.now)))))))))))))))))))))
+    CHART.now ++ (COUNTING.now ++ (DECLARING.now ++ (MENDING.now ++ (SWITCHING.now ++ (PUBLISHING.now ++ (JOURNAL.now ++ EVENTS.now))))))))))))))))))))))
 
 -- the style of the page
 abbrev pub style : List ℕ

@@ -108,6 +108,8 @@ for example <b>paper 12/4</b> for batch 12 and teller 4.</p>
 <div><h3>Copies</h3><div id="copies"></div></div>
 <div><h3>Downloads</h3><div id="files"></div></div>
 </div>
+<h3>Results for everyone</h3>
+<div id="publication"></div>
 <div id="mending"></div>
 <h3>Accepted orders</h3>
 <p class="row"><label>Search <input id="receipt-search" type="search" autocomplete="off"></label>

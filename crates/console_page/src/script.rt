@@ -24,6 +24,7 @@ mod nominations;
 mod overview;
 mod papers;
 mod pending;
+mod publishing;
 mod requests;
 mod sealing;
 mod switching;
@@ -48,6 +49,7 @@ use crate::script::nominations::NOMINATIONS;
 use crate::script::overview::OVERVIEW;
 use crate::script::papers::PAPERS;
 use crate::script::pending::PENDING;
+use crate::script::publishing::PUBLISHING;
 use crate::script::requests::REQUESTS;
 use crate::script::sealing::SEALING;
 use crate::script::switching::SWITCHING;
@@ -62,6 +64,6 @@ pub(crate) fn script_text(alloc: Global) -> Result<String, AllocError>
 {
     format!(in alloc;
         "{BASICS}{ADVICE}{WORDS}{REQUESTS}{PAPERS}{PENDING}{DIALOGS}{FRAME}{OVERVIEW}{NOMINATIONS}{GIVING}{BATCHES}\
-{KEYINGS}{ADJUDICATION}{VERDICTS}{SEALING}{CHART}{COUNTING}{DECLARING}{MENDING}{SWITCHING}{JOURNAL}{EVENTS}"
+{KEYINGS}{ADJUDICATION}{VERDICTS}{SEALING}{CHART}{COUNTING}{DECLARING}{MENDING}{SWITCHING}{PUBLISHING}{JOURNAL}{EVENTS}"
     )
 }

@@ -28,7 +28,9 @@ ghost use Rattle.store.specs.Openings.{IsLeftAt};
 ghost use Rattle.desk.specs.Journals.{IsJournalTold, IsToldElsewhere};
 ghost use Rattle.desk.specs.Mends.{IsMendPage};
 ghost use Rattle.desk.specs.declared.orders.MendOrder.{MendOrder};
+ghost use Rattle.desk.specs.declared.orders.PublishOrder.{PublishOrder};
 ghost use Rattle.desk.specs.Pages.{IsErrorTold, Tells, outputs_of};
+ghost use Rattle.desk.specs.Publications.{IsPublishTold};
 ghost use Rattle.desk.specs.Seconds.{IsSecondPage};
 ghost use Rattle.connections.specs.Streams.{stream_of};
 ghost use Rattle.count_office.specs.Done.{IsDoneWith};
@@ -55,11 +57,13 @@ mod host;
 mod localhost;
 mod public;
 mod serving;
-// what else is done while the office is served: copies, the journal, a new office from it, and checks of its files
+// what else is done while the office is served: copies, the journal, a new office from it, published results, and checks of its files
 mod copies;
 mod file_watch;
 mod mends;
 mod new_file;
+mod new_folder;
+mod publishing;
 mod served_file;
 // an office and a second record of it
 mod record_note;
@@ -89,6 +93,7 @@ use mends::{OldOffice, mend};
 use order_files::{LocalFolder, OrderFiles};
 use order_run::OrderRun;
 use path_state::PathState;
+use publishing::publish;
 use remarks::perform_and_remark;
 use screen::Screen;
 use second_order::{RecordedTask, perform_with_record};
@@ -214,6 +219,9 @@ fn dispatch_order<H: Host, S: Alter, O: Sink, E: Sink>(
     ensures mends { (asked : MendOrder) → order.now ≡ Order.Mend asked → (let outputs = outputs_of O.taken O.failed E.taken E.failed in
         Tells (outputs out.old err.old) (outputs out.new err.new) result.0 (λ _ page. HasCleanDisk (state S.Store result.1) → (db : Database) → RestsAt db (state S.Store conn)
         → (s : OfficeState) → IsLeftAt s db → IsMendPage s asked page)) }
+    ensures publishes { (asked : PublishOrder) → order.now ≡ Order.Publish asked → (let outputs = outputs_of O.taken O.failed E.taken E.failed in
+        Tells (outputs out.old err.old) (outputs out.new err.new) result.0 (λ _ page. HasCleanDisk (state S.Store result.1) → (db : Database) → RestsAt db (state S.Store conn)
+        → (s : OfficeState) → IsLeftAt s db → IsPublishTold s asked page)) }
     ensures seconds { (path : Bor (List ℕ)) → order.now ≡ Order.Second path → (let outputs = outputs_of O.taken O.failed E.taken E.failed in
         Tells (outputs out.old err.old) (outputs out.new err.new) result.0 (λ _ page. HasCleanDisk (state S.Store result.1) → (db : Database) → RestsAt db (state S.Store conn)
         → (s : OfficeState) → IsLeftAt s db → IsSecondPage s path.now page)) }
@@ -256,6 +264,7 @@ fn dispatch_order<H: Host, S: Alter, O: Sink, E: Sink>(
             };
             mend(old, conn, asked, out, err)
         }
+        Order::Publish(asked) => publish(rt, conn, *asked, out, err),
         Order::Codes {
             path,
             clerks,

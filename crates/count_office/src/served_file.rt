@@ -8,9 +8,10 @@ ghost use Rattle.count_office.specs.CopyPaths.{copy_path, folder_of};
 use crate::copies::copy_served;
 use crate::file_watch::FileWatch;
 use crate::mends::{OldOffice, mend_served};
+use crate::publishing::publish_served;
 use crate::record_place::record_lines;
 use crate::seconds::second_served;
-use desk::{Failure, Folder, MendOrder, journal_open, tell_failure};
+use desk::{Failure, Folder, MendOrder, PublishOrder, journal_open, tell_failure};
 use office::Office;
 use server::{Destination, ServedFile};
 use sqlite::{Alter, Connection};
@@ -36,7 +37,8 @@ fn folder_of(file: &str) -> Path<'_>
     Path::new(file).parent().unwrap_or(Path::new(""))
 }
 
-/// Returns the path of a copy. If no folder is given, as with the console, the copy is made next to the database.
+/// Returns the path of a copy, of a new office or of published results. If no folder is given, as with the console, it is next to the
+/// database.
 fn path_of_copy(alloc: Global, database: &str, to: Destination<'_>) -> Result<PathBuf, AllocError>
     ensures { IfOk result (λ path. path_buf_bytes path ≡ copy_path database.now to.entry.folder.now to.entry.path.now) }
 {
@@ -120,6 +122,26 @@ impl ServedFile for LocalFile<'_> {
                 let status = mend_served(old, office, asked, path.as_str(), out, err);
                 self.learn_if_moved(asked, status);
                 status
+            }
+            Err(AllocError) => tell_failure(Failure::Office(Fault::Memory), err),
+        }
+    }
+
+    fn publish<S: Alter, O: Sink, E: Sink>(
+        &self,
+        office: &mut Office<S>,
+        asked: PublishOrder<'_>,
+        to: Destination<'_>,
+        out: &mut O,
+        err: &mut E,
+    ) -> u8 {
+        match path_of_copy(self.rt.alloc(), self.file_watch.database(), to) {
+            Ok(path) => {
+                let there = PublishOrder {
+                    path: path.as_str(),
+                    ..asked
+                };
+                publish_served(self.rt, office, there, out, err)
             }
             Err(AllocError) => tell_failure(Failure::Office(Fault::Memory), err),
         }

@@ -37,3 +37,4 @@ mod SameLemmas
 mod ScriptContinues
 mod RequestLemmas
 mod RequestsRead
+pub mod PublishLemmas

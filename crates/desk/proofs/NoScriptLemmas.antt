@@ -42,6 +42,7 @@ allowed_text ward ward_text.Declaration = refl
 allowed_text ward ward_text.Ballots = refl
 allowed_text ward (ward_text.Page title) = refl
 allowed_text ward ward_text.Table = refl
+allowed_text ward ward_text.Results = refl
 
 allowed_errand : (e : Errand) → is_allowed (told_errand e) ≡ sends_requests e
 unfolding is_allowed
@@ -67,6 +68,7 @@ allowed_order (order.Copy path) = refl
 allowed_order order.Journal = refl
 allowed_order (order.Second path) = refl
 allowed_order (order.Mend m) = refl
+allowed_order (order.Publish p) = refl
 allowed_order (order.Codes path clerks with_office) = refl
 allowed_order (order.Slips path address) = refl
 allowed_order (order.Serve port connections origin codes public) = refl
@@ -127,6 +129,7 @@ not_sent ward ward_text.Declaration sent is = absurd (cc is)
 not_sent ward ward_text.Ballots sent is = absurd (cc is)
 not_sent ward (ward_text.Page title) sent is = absurd (cc is)
 not_sent ward ward_text.Table sent is = absurd (cc is)
+not_sent ward ward_text.Results sent is = absurd (cc is)
 
 is_sent : (e : Errand) (sent : Sent) → told_errand e ≡ send sent → (request : Request) × (e ≡ errand.Send request)
 is_sent (errand.Send request) sent is = (request, refl)

@@ -18,7 +18,7 @@ abbrev pub other_names : List Text
 other_names =
     codes "init" ∷ codes "migrate" ∷ codes "import-candidates" ∷ codes "import-batches" ∷ codes "import-keying" ∷ codes "key" ∷ codes "seal" ∷ codes "count"
     ∷ codes "next" ∷ codes "status" ∷ codes "sheet" ∷ codes "result" ∷ codes "ballots" ∷ codes "page" ∷ codes "table" ∷ codes "index" ∷ codes "serve" ∷ codes "forms"
-    ∷ codes "journal" ∷ codes "replay" ∷ codes "second" ∷ codes "copy" ∷ codes "mend" ∷ codes "switch" ∷ codes "codes" ∷ []
+    ∷ codes "journal" ∷ codes "replay" ∷ codes "second" ∷ codes "copy" ∷ codes "mend" ∷ codes "switch" ∷ codes "codes" ∷ codes "publish" ∷ []
 
 -- the name is none of these
 abbrev pub IsNoneOf : List Text → Text → Type 0

@@ -185,6 +185,7 @@ pub data Meant : Type 0 where
   journal : Meant
   second : Text → Meant
   mend : Bool → Text → List Text → List Text → Meant
+  publish : Text → Text → Bool → Meant
   make_codes : Text → Text → Bool → Meant
   print_slips : Text → Text → Meant
   serve : ℕ → Option ℕ → Option Text → Option Text → Option Text → Meant
@@ -223,6 +224,7 @@ told (order.Copy path) = copy path.now
 told order.Journal = journal
 told (order.Second path) = second path.now
 told (order.Mend m) = mend m.takes_over m.path.now (map string_bytes m.without.items) (map string_bytes m.instead.items)
+told (order.Publish p) = publish p.path.now p.title.now p.with_ballots
 told (order.Codes path clerks with_office) = make_codes path.now clerks.now with_office
 told (order.Slips path address) = print_slips path.now (origin_text address)
 told (order.Serve port connections origin file public) =
@@ -366,4 +368,5 @@ orders =
     ∷ takes (codes "page") (number (codes "WARD") ∷ title ∷ []) print_page
     ∷ takes (codes "table") (number (codes "WARD") ∷ []) (λ ward. print ward ward_text.Table)
     ∷ takes (codes "index") (title ∷ []) print_index
+    ∷ takes (codes "publish") (text (codes "FOLDER") ∷ title ∷ flag (codes "ballots") ∷ []) publish
     ∷ []

@@ -8,7 +8,7 @@
 //! the `server` crate. In an office that is already open, such as one that is being served, [`follow`](order_running) does a job,
 //! and `copy_open` and `journal_open` copy the office and print its journal. There [`mend_open`](mended_office) makes another
 //! office from that journal, with some orders left out and others replaced, and [`second_open`](second_record) compares the office
-//! with a second record of it. [`files_named_in`](script_files) returns the paths of the files that a script names, for a client
+//! with a second record of it. [`publish_open`](publishing) publishes its results in a folder. [`files_named_in`](script_files) returns the paths of the files that a script names, for a client
 //! that sends them along with it. Which files, outputs and sockets these are is up to the program.
 //!
 //! ```text
@@ -20,6 +20,7 @@
 //!         | Order::Journal
 //!         | Order::Second { .. }
 //!         | Order::Mend(_)
+//!         | Order::Publish(_)
 //!         | Order::Codes { .. }
 //!         | Order::Slips { .. },
 //!     ) => ..,
@@ -60,6 +61,7 @@ pub mod perform;
 pub mod plain;
 mod printing;
 pub mod progress;
+pub mod publishing;
 pub mod record;
 mod request_lines;
 mod same_requests;
@@ -82,9 +84,11 @@ pub use lines::{
 pub use mended_office::{MendTrial, mend_open};
 pub use order_running::{follow, follow_recorded};
 pub use orders::{
-    Errand, ExpectedSeal, Form, Job, KeyingFile, MendOrder, Order, Question, ReplayOrder, Task,
+    Errand, ExpectedSeal, Form, Job, KeyingFile, MendOrder, Order, PublishOrder, Question,
+    ReplayOrder, Task,
 };
 pub use progress::ProgressSink;
+pub use publishing::{FolderFault, PublicFolder, publish_open};
 pub use record::{NoRecord, Recorder};
 pub use script_files::files_named_in;
 pub use script_record::{DurableSink, RecordFault, ScriptRecord};

@@ -134,6 +134,12 @@ pub(crate) const ADDRESS: Word =
 pub(crate) const NEW: Word =
     word!(Text "NEW", "The path of the copy; there must be nothing at it yet");
 
+pub(crate) const FOLDER: Word =
+    word!(Text "FOLDER", "The path of the folder; there must be nothing at it yet");
+
+pub(crate) const WITH_BALLOTS: Word =
+    word!(Flag "ballots", "Publishes the ballots of each ward too, so that anyone can count them again");
+
 pub(crate) const NEW_OFFICE: Word =
     word!(Text "NEW", "The path of the new office; there must be nothing at it yet");
 

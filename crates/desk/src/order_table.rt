@@ -17,12 +17,13 @@ ghost use Rattle.desk.specs.Words.{flag_at, public_at, texts_at};
 
 use crate::order_entry::{
     ACTOR, ADDRESS, BATCH, CANDIDATE, CLERK, CLERKS, CODES, CODES_FILE, CONNECTIONS, CUT, DIGEST,
-    Entry, FILE, FIRST_CLERK, FORM, Heading, ID, ITS_CLERK, KEEP_GOING, MARKS, NAME, NEW,
+    Entry, FILE, FIRST_CLERK, FOLDER, FORM, Heading, ID, ITS_CLERK, KEEP_GOING, MARKS, NAME, NEW,
     NEW_OFFICE, ORIGIN, PAPER, PAPERS, PORT, PUBLIC, RECORD, ROUND, SCRIPT, SEATS, SECOND_CLERK,
-    SIZE, SOURCE, STAGE, TITLE, VERDICT, WARD, WITH, WITH_OFFICE, WITHOUT, Word,
+    SIZE, SOURCE, STAGE, TITLE, VERDICT, WARD, WITH, WITH_BALLOTS, WITH_OFFICE, WITHOUT, Word,
 };
 use crate::orders::{
-    Errand, ExpectedSeal, Form, Job, KeyingFile, MendOrder, Order, Question, ReplayOrder, Task,
+    Errand, ExpectedSeal, Form, Job, KeyingFile, MendOrder, Order, PublishOrder, Question,
+    ReplayOrder, Task,
 };
 use crate::requests::{by_clerk, by_office};
 use crate::verdicts::verdict_in;
@@ -73,7 +74,7 @@ const ORDERS_TO_SEAL: [Entry; 13] = [
 /// The other orders: those from the seal on, in the same order; then `migrate`; then those for the office alone; and then those for
 /// everyone.
 #[rattlefmt::skip]
-const ORDERS_FROM_SEAL: [Entry; 30] = [
+const ORDERS_FROM_SEAL: [Entry; 31] = [
     order!(Election "seal" [WARD, ID, PAPERS], "Seals a ward whose papers are all agreed and judged:\ncount-office town.db seal 7 --id s1"),
     order!(Election "advance" [WARD, ID], "Counts the one stage that is due in a sealed ward:\ncount-office town.db advance 7 --id a1"),
     order!(Election "count" [WARD, ID], "Counts a sealed ward up to a lot or the end, its first stage under ID-1:\ncount-office town.db count 7 --id a"),
@@ -106,6 +107,7 @@ const ORDERS_FROM_SEAL: [Entry; 30] = [
     order!(Everyone "page" [WARD, TITLE], "Prints the result of a sealed ward as a page for a browser, to print and sign:\ncount-office town.db page 7"),
     order!(Everyone "table" [WARD], "Prints the stages of a sealed ward as a table for a spreadsheet:\ncount-office town.db table 7"),
     order!(Everyone "index" [TITLE], "Prints the status of all wards, and who is elected, as a page to hang at the door:\ncount-office town.db index"),
+    order!(Everyone "publish" [FOLDER, TITLE, WITH_BALLOTS], "Makes a folder with the results of all sealed wards, for a web site:\ncount-office town.db publish results"),
 ];
 
 /// Returns the orders up to the seal, which are the first 13.
@@ -458,6 +460,26 @@ fn mending<'a>(
     }))
 }
 
+fn making_codes<'a>(matches: &ArgMatches<'a>) -> Order<'a>
+    ensures { meaning_of (codes "codes") (rows_of (found_of matches.now)) ≡ Some (told result) }
+{
+    Order::Codes {
+        path: text_in(matches, CODES_FILE),
+        clerks: text_in(matches, CLERKS),
+        with_office: flag_in(matches, WITH_OFFICE),
+    }
+}
+
+fn publishing<'a>(matches: &ArgMatches<'a>) -> Order<'a>
+    ensures { meaning_of (codes "publish") (rows_of (found_of matches.now)) ≡ Some (told result) }
+{
+    Order::Publish(PublishOrder {
+        path: text_in(matches, FOLDER),
+        title: text_in(matches, TITLE),
+        with_ballots: flag_in(matches, WITH_BALLOTS),
+    })
+}
+
 fn serve<'a>(matches: &ArgMatches<'a>) -> Result<Order<'a>, NoOrder>
     ensures ok { IfOk result (λ o. meaning_of (codes "serve") (rows_of (found_of matches.now)) ≡ Some (told o)) }
     ensures bad_origin { result ≡ Err NoOrder.BadOrigin → meaning_of (codes "serve") (rows_of (found_of matches.now)) ≡ Some no_origin }
@@ -655,11 +677,8 @@ fn order_named<'a>(
         }),
         "mend" => mending(alloc, matches, false),
         "switch" => mending(alloc, matches, true),
-        "codes" => Ok(Order::Codes {
-            path: text_in(matches, CODES_FILE),
-            clerks: text_in(matches, CLERKS),
-            with_office: flag_in(matches, WITH_OFFICE),
-        }),
+        "codes" => Ok(making_codes(matches)),
+        "publish" => Ok(publishing(matches)),
         _ => match question_named(name, matches) {
             Some(question) => Ok(asking(question)),
             None => sending(alloc, matches, command_named(alloc, name, matches)?),

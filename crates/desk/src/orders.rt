@@ -194,6 +194,14 @@ pub struct MendOrder<'a> {
     pub takes_over: bool,
 }
 
+/// An order to publish the results: the path of the folder, the title of its pages, and whether it also has the ballots.
+#[derive(Clone, Copy, Debug)]
+pub struct PublishOrder<'a> {
+    pub path: &'a str,
+    pub title: &'a str,
+    pub with_ballots: bool,
+}
+
 /// What the program is asked to do.
 #[derive(Debug, Drop)]
 pub enum Order<'a> {
@@ -212,6 +220,8 @@ pub enum Order<'a> {
     /// Make a new office, in a file that doesn't exist yet, from this one's journal, with some orders left out and others replaced.
     /// If it takes over, it then takes the place of this office.
     Mend(MendOrder<'a>),
+    /// Publish the results of all sealed wards, in a folder that doesn't exist yet.
+    Publish(PublishOrder<'a>),
     /// Write a new codes file, which must not exist yet, for the clerks that a word names, and for the office too if requested.
     Codes {
         path: &'a str,

@@ -36,7 +36,7 @@ impl<R: Read + Drop> Folder for OneFile<R> {
 /// `file` is `None` if the file couldn't be opened. This is [`perform`](crate::perform::perform) with a folder of that one file, so
 /// the import files that a script names can't be opened. It accepts any order except those to serve, to copy, to print a journal, to
 /// compare the office with a second record,
-/// to mend, to make codes, or to print slips.
+/// to mend, to publish, to make codes, or to print slips.
 pub fn perform<S: Alter, R: Read + Drop, O: Sink, E: Sink>(
     alloc: Global,
     order: &Order<'_>,
@@ -60,6 +60,7 @@ pub fn perform<S: Alter, R: Read + Drop, O: Sink, E: Sink>(
         Order::Journal => unreachable!(),
         Order::Second { .. } => unreachable!(),
         Order::Mend(_) => unreachable!(),
+        Order::Publish(_) => unreachable!(),
         Order::Codes { .. } => unreachable!(),
         Order::Slips { .. } => unreachable!(),
         Order::Serve { .. } => unreachable!(),

@@ -168,6 +168,7 @@ fn errand_of(order: Order<'_>) -> Option<Errand<'_>>
         Order::Perform(Task::Init | Task::Migrate) => None,
         Order::Copy { .. } | Order::Journal | Order::Mend(_) | Order::Serve { .. } => None,
         Order::Second { .. } | Order::Codes { .. } | Order::Slips { .. } => None,
+        Order::Publish(_) => None,
     }
 }
 

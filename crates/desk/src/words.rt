@@ -53,6 +53,7 @@ For everyone who wants to see or check a count, once the ward is sealed:
   table WARD         Its stages as a table for a spreadsheet (CSV)
   index              The status of all wards, sealed or not, and who is elected, as a page
                      to hang at the door (HTML)
+  publish FOLDER     All of these, of each sealed ward, as a folder for a web site
 
 Each order's help ends with an example. Its words, with their ranges, are shown by
   count-office DB ORDER --help

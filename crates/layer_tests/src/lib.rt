@@ -24,6 +24,8 @@ mod paper_marks;
 #[cfg(test)]
 mod public_targets;
 #[cfg(test)]
+mod publication_folders;
+#[cfg(test)]
 mod sheet_ballots;
 #[cfg(test)]
 mod sheet_outputs;

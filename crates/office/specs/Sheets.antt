@@ -11,6 +11,7 @@ use Rattle.count.specs.declared.stages.Stage.{Stage}
 use Rattle.sheet.specs.Sheet.{sheet, declaration}
 use Rattle.sheet.specs.Ballots.{ballots}
 use Rattle.sheet.specs.Page.{page}
+use Rattle.sheet.specs.Results.{results}
 use Rattle.sheet.specs.Spreadsheet.{spreadsheet}
 use Rattle.register.specs.declared.phase.Phase.{Phase}
 use Rattle.register.specs.declared.refusal.Reason.{Reason}
@@ -19,7 +20,7 @@ use Rattle.tables.specs.declared.fault.Fault.TheVariants.{Memory, Store}
 use Rattle.office.specs.declared.answers.ReadError.{ReadError}
 use Rattle.office.specs.declared.answers.ReadError.TheVariants.{Refused, Fault as Failed}
 use Rattle.office.specs.declared.sheets.WardText.{WardText}
-use Rattle.office.specs.declared.sheets.WardText.TheVariants.{Sheet, Declaration, Ballots, Page, Table}
+use Rattle.office.specs.declared.sheets.WardText.TheVariants.{Sheet, Declaration, Ballots, Page, Table, Results}
 use Rattle.register.specs.Ranges.{last_ward, is_ward_number, is_candidate_number}
 use Rattle.register.specs.Offices.{WardEntry, CandidateEntry, OfficeState, ward_at}
 use Rattle.register.specs.Elections.{ElectionEntry, election_of, has_count, contest_of, stages_of, elected_of, is_counted, is_declared}
@@ -92,6 +93,10 @@ result_page_of title e = page (election_shown e) title (is_declared e.ward.phase
 abbrev pub table_of : ElectionEntry → List ℕ
 table_of e = spreadsheet (election_shown e) (stages_shown e)
 
+-- the result as JSON, for other programs
+abbrev pub results_of : ElectionEntry → List ℕ
+results_of e = results (election_shown e) (is_declared e.ward.phase) (stages_shown e) (lots_shown e)
+
 -- whether the text may be printed in the given phase of the ward
 abbrev pub is_printable_in : WardText → Phase → Bool
 is_printable_in Sheet phase = is_counted phase
@@ -99,6 +104,7 @@ is_printable_in Declaration phase = is_declared phase
 is_printable_in Ballots phase = is_counted phase
 is_printable_in (Page title) phase = is_counted phase
 is_printable_in Table phase = is_counted phase
+is_printable_in Results phase = is_counted phase
 
 -- the text of an election
 abbrev pub text_shown : WardText → ElectionEntry → List ℕ
@@ -107,6 +113,7 @@ text_shown Declaration e = declaration_of e
 text_shown Ballots e = ballots_of e
 text_shown (Page title) e = result_page_of title.now e
 text_shown Table e = table_of e
+text_shown Results e = results_of e
 
 -- the text of the ward that was found, or the reason why there is none
 abbrev pub text_found : WardText → OfficeState → Option WardEntry → Result (List ℕ) Reason

@@ -16,8 +16,8 @@ use count::{Bundles, Stage};
 use register::marks::columns_of;
 use register::{Candidate, CountedWard, Phase, WardSheet};
 use sheet::{
-    Poll, Ward, ballots_text, can_be_printed, declaration_text, page_text, sheet_text,
-    spreadsheet_text,
+    Poll, Ward, ballots_text, can_be_printed, declaration_text, page_text, results_text,
+    sheet_text, spreadsheet_text,
 };
 use std::alloc::{AllocError, Global};
 use store::elected_in;
@@ -44,6 +44,8 @@ pub enum WardText<'a> {
     Page(&'a str),
     /// The stages as a table for a spreadsheet, once the ward is sealed.
     Table,
+    /// The result as JSON for other programs, once the ward is sealed.
+    Results,
 }
 
 impl<'a> WardText<'a> {
@@ -54,7 +56,11 @@ impl<'a> WardText<'a> {
     {
         match self {
             WardText::Declaration => matches!(phase, Phase::Declared),
-            WardText::Sheet | WardText::Ballots | WardText::Page(_) | WardText::Table => {
+            WardText::Sheet
+            | WardText::Ballots
+            | WardText::Page(_)
+            | WardText::Table
+            | WardText::Results => {
                 matches!(phase, Phase::Sealed | Phase::Declared)
             }
         }
@@ -198,6 +204,11 @@ fn write_text(
             )
         }
         WardText::Table => spreadsheet_text(alloc, ward, stages_of(counted)),
+        WardText::Results => {
+            let is_declared = WardText::Declaration.is_printable_in(counted.ward.phase);
+            let stages = stages_of(counted);
+            results_text(alloc, ward, is_declared, stages, lots_of(counted))
+        }
     }
 }
 

@@ -282,6 +282,7 @@ module _ {S R : Type 0} (state_of : Held S → State) (found : R → Text → Ty
   order_leaves old new (asked.Second path) cut page unfailed fails it = none_sent (asked.Second path) cut page new.closed (state_of new.held) (it.0, refl, refl) it.1 it.2
   order_leaves old new asked.Record cut page unfailed fails it =
       none_sent asked.Record cut page new.closed (state_of new.held) ((failed before, it.0), refl, refl) (inl it.1) it.2
+  order_leaves old new (asked.Publish publishing) cut page unfailed fails it = none_sent (asked.Publish publishing) cut page new.closed (state_of new.held) (it.0, refl, refl) it.1 it.2
   order_leaves old new (asked.Refused failure) cut page unfailed fails it = none_sent (asked.Refused failure) cut page new.closed (state_of new.held) (it.0, refl, refl) (inl it.1) it.2
   order_leaves old new (asked.Misread fault) cut page unfailed fails it = none_sent (asked.Misread fault) cut page new.closed (state_of new.held) (it.0, refl, refl) (inl it.1) it.2
 
@@ -295,6 +296,7 @@ module _ {S R : Type 0} (state_of : Held S → State) (found : R → Text → Ty
   order_still old new (asked.Mend mending) cut page was agrees it = ((it.0, refl, refl), it.1, it.2)
   order_still old new (asked.Second path) cut page was agrees it = ((it.0, refl, refl), it.1, it.2)
   order_still old new asked.Record cut page was agrees it = (((failed before, it.0), refl, refl), inl it.1, it.2)
+  order_still old new (asked.Publish publishing) cut page was agrees it = ((it.0, refl, refl), it.1, it.2)
   order_still old new (asked.Refused failure) cut page was agrees it = ((it.0, refl, refl), inl it.1, it.2)
   order_still old new (asked.Misread fault) cut page was agrees it = ((it.0, refl, refl), inl it.1, it.2)
 

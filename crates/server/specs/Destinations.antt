@@ -1,4 +1,4 @@
--- The file that an order makes: a copy of the office, or a new office.
+-- The file that an order makes: a copy of the office, or a new office; or the folder in which it publishes the results.
 use Rattle.std.specs.Prelude.{◌==◌, Bool, false, not, [], ◌∷◌, None, Option, Some, IfNone, IfSome, if◌then◌else◌, option_map, ⊤, ℕ}
 use Rattle.std.specs.List.{list_any}
 use Rattle.std.specs.Str.{is_utf8}
@@ -21,7 +21,7 @@ abbrev pub is_bare_name : Text → Bool
 is_bare_name [] = false
 is_bare_name (byte ∷ bytes) = not (list_any (λ b. b == 47) (byte ∷ bytes))
 
--- The file that a path means in the folder in which the order was typed, if the folder's name is UTF-8. An order from the console has no folder: a bare name means a
+-- The file or folder that a path means in the folder in which the order was typed, if the folder's name is UTF-8. An order from the console has no folder: a bare name means a
 -- file next to the office that is served, and no other path means a file.
 abbrev pub destination_at : Option Text → Text → Option DestinationEntry
 destination_at (Some folder) path = if is_utf8 folder then Some (record { folder = folder; path = path }) else None
@@ -36,8 +36,9 @@ folder_typed_in attached = option_map (λ folder. folder.now) attached.folder
 abbrev pub EndsAt : (Text → Text → ℕ → Type 0) → Type 0 → Option DestinationEntry → ℕ → Type 0
 EndsAt ended failed to status = IfSome to (λ at. ended at.folder at.path status) × IfNone to failed
 
--- the same of what an order asks for; only copies and new offices make a file
+-- the same of what an order asks for; only copies, new offices and published results make a file or a folder
 abbrev pub EndsWhereAsked : (Text → Text → ℕ → Type 0) → Type 0 → Option Text → ServedOrder → ℕ → Type 0
 EndsWhereAsked ended failed folder (asked.Copy path) status = EndsAt ended failed (destination_at folder path.now) status
 EndsWhereAsked ended failed folder (asked.Mend mending) status = EndsAt ended failed (destination_at folder mending.path.now) status
+EndsWhereAsked ended failed folder (asked.Publish publishing) status = EndsAt ended failed (destination_at folder publishing.path.now) status
 EndsWhereAsked ended failed folder other status = ⊤

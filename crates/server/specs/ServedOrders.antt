@@ -23,6 +23,7 @@ use Rattle.desk.specs.Mends.{IsMendPage}
 use Rattle.desk.specs.Orders.{told}
 use Rattle.desk.specs.Pages.{Cut, IsShown, Outputs, Page, below, closed_page, failed, printed, replied, words_page}
 use Rattle.desk.specs.Parts.{ComesTo, ComesToRecorded}
+use Rattle.desk.specs.Publications.{IsPublishTold}
 use Rattle.desk.specs.Records.{IsRecorded}
 use Rattle.desk.specs.Seconds.{IsSecondTold}
 use Rattle.desk.specs.Words.{IsNoneMeant, meaning, office_words}
@@ -81,8 +82,8 @@ asks_for_record (db ∷ []) = false
 asks_for_record (db ∷ word ∷ []) = bytes_eq word (codes "record")
 asks_for_record (db ∷ word ∷ other ∷ words) = false
 
--- What the words of an order for the served file ask for: a job, a copy, the journal, a new office from it, a comparison with a second record, or where the office's own
--- is. Or why it isn't carried out: the words aren't an order; or the file is gone (and isn't known to be whole); or the office has a second record, which failed.
+-- What the words of an order for the served file ask for: a job, a copy, the journal, a new office from it, a comparison with a second record, where the office's own is, or
+-- published results. Or why it isn't carried out: the words aren't an order; or the file is gone (and isn't known to be whole); or the office has a second record, which failed.
 abbrev pub AsksSo : Option Bool → Bool → List Text → ServedOrder → Type 0
 AsksSo whole recorded words (asked.Do job) = MeansOrder words (order.Perform (task.InOffice job))
 AsksSo whole recorded words (asked.Copy path) = MeansOrder words (order.Copy path)
@@ -90,6 +91,7 @@ AsksSo whole recorded words asked.Journal = MeansOrder words order.Journal
 AsksSo whole recorded words (asked.Mend mending) = MeansOrder words (order.Mend mending)
 AsksSo whole recorded words (asked.Second path) = MeansOrder words (order.Second path)
 AsksSo whole recorded words asked.Record = asks_for_record words ≡ true
+AsksSo whole recorded words (asked.Publish publishing) = MeansOrder words (order.Publish publishing)
 AsksSo whole recorded words (asked.Refused failure) =
     ((failure ≡ BeingServed) × ((o : Order) × MeansOrder words o × IsForNone o))
     ⊎ (((failure ≡ FileGone) × ((job : Job) × MeansOrder words (order.Perform (task.InOffice job))) × (whole ≡ Some true → ⊥))
@@ -170,8 +172,8 @@ AgreesWithRecord failed (asked.Refused failure) = failure ≡ SecondRecord → f
 AgreesWithRecord failed other = ⊤
 
 -- The outcome of what is requested in a given state, and what it leaves of the office, whose connection was in the state `old`, and of its record. A job is carried out in
--- the office, and each request of it that the office accepts is recorded before it is acknowledged. For a copy, the journal, a new office from it, or a comparison with a
--- second record, the office is only read. An order that only says where the record is, or isn't carried out, leaves it unchanged.
+-- the office, and each request of it that the office accepts is recorded before it is acknowledged. For a copy, the journal, a new office from it, published results, or a
+-- comparison with a second record, the office is only read. An order that only says where the record is, or isn't carried out, leaves it unchanged.
 abbrev pub IsOrderOutcome : RecordChange → State → Bool → State → Folder → OfficeState → ServedOrder → Cut → Page → Type 0
 IsOrderOutcome change old closed st folder s (asked.Do job) cut page =
     ComesToRecorded cut page (λ requests answered. change.had_failed ≡ false → IsRecorded s requests answered change.old change.new change.has_failed)
@@ -181,6 +183,7 @@ IsOrderOutcome change old closed st folder s asked.Journal cut page = IsJournalT
 IsOrderOutcome change old closed st folder s (asked.Mend mending) cut page = IsMendPage s mending page × IsReadAt s closed st × change.same
 IsOrderOutcome change old closed st folder s (asked.Second path) cut page = IsSecondIn folder s path.now page × IsReadAt s closed st × change.same
 IsOrderOutcome change old closed st folder s asked.Record cut page = IsRecordTold (λ text. ⊤) change.had_failed page × IsOpenAt s closed st × change.same
+IsOrderOutcome change old closed st folder s (asked.Publish publishing) cut page = IsPublishTold s publishing page × IsReadAt s closed st × change.same
 IsOrderOutcome change old closed st folder s (asked.Refused failure) cut page = (page ≡ failed failure) × IsOpenAt s closed st × change.same
 IsOrderOutcome change old closed st folder s (asked.Misread fault) cut page = (page ≡ words_page fault) × IsOpenAt s closed st × change.same
 
@@ -192,6 +195,7 @@ closed_office_page asked.Journal = closed_page
 closed_office_page (asked.Mend mending) = closed_page
 closed_office_page (asked.Second path) = closed_page
 closed_office_page asked.Record = closed_page
+closed_office_page (asked.Publish publishing) = closed_page
 closed_office_page (asked.Refused failure) = failed failure
 closed_office_page (asked.Misread fault) = words_page fault
 
@@ -237,6 +241,7 @@ PrintsAt state_of recorded folder s asked.Journal cut page sent last = IsJournal
 PrintsAt state_of recorded folder s (asked.Mend mending) cut page sent last = IsMendPage s mending page × (sent ≡ []) × (last ≡ [])
 PrintsAt state_of recorded folder s (asked.Second path) cut page sent last = IsSecondIn folder s path.now page × (sent ≡ []) × (last ≡ [])
 PrintsAt state_of recorded folder s asked.Record cut page sent last = ((has_failed : Bool) × IsRecordTold (λ text. ⊤) has_failed page) × (sent ≡ []) × (last ≡ [])
+PrintsAt state_of recorded folder s (asked.Publish publishing) cut page sent last = IsPublishTold s publishing page × (sent ≡ []) × (last ≡ [])
 PrintsAt state_of recorded folder s (asked.Refused failure) cut page sent last = (page ≡ failed failure) × (sent ≡ []) × (last ≡ [])
 PrintsAt state_of recorded folder s (asked.Misread fault) cut page sent last = (page ≡ words_page fault) × (sent ≡ []) × (last ≡ [])
 

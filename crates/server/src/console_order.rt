@@ -126,8 +126,8 @@ fn reject_out_of_memory<A: ServedFile, S: Alter, R: Recorder>(
 /// Processes an order from the console in the office, and returns the response with both its output and its error output. A
 /// closed office stays as it is.
 ///
-/// The files that the order names are those sent with it, and no others. A copy or a new office is made only at a bare name,
-/// without a folder. The orders `init`, `migrate`, `serve`, `codes` and `forms slips` aren't carried out, because the office is
+/// The files that the order names are those sent with it, and no others. A copy, a new office or a folder of results is made
+/// only at a bare name, without a folder. The orders `init`, `migrate`, `serve`, `codes` and `forms slips` aren't carried out, because the office is
 /// being served (111). If the record has failed, no job is carried out (112).
 pub fn answer_console<A: ServedFile, S: Alter, R: Recorder>(
     alloc: Global,

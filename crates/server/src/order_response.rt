@@ -11,6 +11,7 @@ ghost use Rattle.connections.specs.Clients.{IsSent};
 ghost use Rattle.order_protocol.specs.Messages.{order_message_entry, message_part_entries};
 ghost use Rattle.desk.specs.Mends.{IsMendPage};
 ghost use Rattle.desk.specs.Pages.{IsErrorTold, Shows, Tells, failed, outputs_of};
+ghost use Rattle.desk.specs.Publications.{IsPublishTold};
 ghost use Rattle.server.specs.Destinations.{EndsWhereAsked, destination_at, destination_entry, folder_typed_in, is_bare_name};
 ghost use Rattle.server.specs.RecordChanges.{change_of};
 ghost use Rattle.server.specs.Settings.{settings_by};
@@ -24,7 +25,8 @@ use crate::served_order::{ServedOrder, is_for_file, read_message, served_order_b
 use crate::server_settings::ServerSettings;
 use connections::{PendingResponse, Stream, VecSink};
 use desk::{
-    Failure, Folder, MendOrder, Recorder, WordsFault, follow_recorded, tell_failure, tell_words,
+    Failure, Folder, MendOrder, PublishOrder, Recorder, WordsFault, follow_recorded, tell_failure,
+    tell_words,
 };
 use office::Office;
 use order_protocol::{MessagePart, OrderMessage};
@@ -96,6 +98,7 @@ fn print_closed<O: Sink, E: Sink>(asked: &ServedOrder<'_>, out: &mut O, err: &mu
         ServedOrder::Mend(_) => tell_failure(Failure::Office(Fault::Closed), err),
         ServedOrder::Second(_) => tell_failure(Failure::Office(Fault::Closed), err),
         ServedOrder::Record => tell_failure(Failure::Office(Fault::Closed), err),
+        ServedOrder::Publish(_) => tell_failure(Failure::Office(Fault::Closed), err),
     }
 }
 
@@ -109,7 +112,7 @@ fn is_bare_name(path: &str) -> bool
     !path.as_bytes().contains(&b'/')
 }
 
-/// Returns the destination of a copy or of a new office: a path relative to the folder in which the order was typed. For an order
+/// Returns the destination of a copy, of a new office or of published results: a path relative to the folder in which the order was typed. For an order
 /// from the console, that folder is empty, and the path must be a bare name. Returns `None` if it isn't, or if the folder's name
 /// isn't UTF-8.
 fn destination_of<'t>(folder: Option<&'t [u8]>, path: &'t str) -> Option<Destination<'t>>
@@ -171,6 +174,30 @@ fn mend_for_order<A: ServedFile, S: Alter, O: Sink, E: Sink>(
 {
     match destination_of(order.attached.folder, mending.path) {
         Some(to) => order.served_file.mend(office, mending, to, out, err),
+        None => tell_failure(Failure::CopyFailed, err),
+    }
+}
+
+/// Publishes the results for an order, in the folder that its path means, and returns the status. If it means none, only prints a
+/// failure.
+fn publish_for_order<A: ServedFile, S: Alter, O: Sink, E: Sink>(
+    order: &OrderContext<'_, A>,
+    publishing: PublishOrder<'_>,
+    office: &mut Office<S>,
+    out: &mut O,
+    err: &mut E,
+) -> u8
+    requires out { O.failed out.old < 2 ^ 64 - 1 }
+    requires err { E.failed err.old < 2 ^ 64 - 1 }
+    ensures told { let outputs = outputs_of O.taken O.failed E.taken E.failed in Tells (outputs out.old err.old) (outputs out.new err.new) result
+        (λ _ page. WhenOpenAt (state S.Store) office.old office.new (λ s. IsPublishTold s publishing.entry page × IsReadAt s office.new.closed (state S.Store office.new.held))) }
+    ensures somewhere { IfSome (destination_at (folder_typed_in order.now.attached) publishing.entry.path.now) (λ to. A.ended order.now.served_file.now to.folder to.path result) }
+    ensures nowhere { IfNone (destination_at (folder_typed_in order.now.attached) publishing.entry.path.now)
+        (IsErrorTold E.taken E.failed err.old err.new (failed Failure.CopyFailed).err 3 result) }
+    ensures clean { HasCleanDisk (state S.Store office.new.held) → HasCleanDisk (state S.Store office.old.held) }
+{
+    match destination_of(order.attached.folder, publishing.path) {
+        Some(to) => order.served_file.publish(office, publishing, to, out, err),
         None => tell_failure(Failure::CopyFailed, err),
     }
 }
@@ -250,6 +277,9 @@ fn do_open<A: ServedFile, S: Alter, R: Recorder, O: Sink, E: Sink>(
             order.served_file.second(office, attached, path, out, err)
         }
         ServedOrder::Record => tell_record(order, &*recorder, out, err),
+        ServedOrder::Publish(publishing) => {
+            publish_for_order(order, *publishing, office, out, err)
+        }
     }
 }
 

@@ -9,23 +9,24 @@ ghost use Rattle.desk.specs.Journals.{IsJournalTold};
 ghost use Rattle.desk.specs.Mends.{IsMendPage};
 ghost use Rattle.desk.specs.Pages.{Tells, outputs_of};
 ghost use Rattle.clap.specs.Words.{Text};
+ghost use Rattle.desk.specs.Publications.{IsPublishTold};
 ghost use Rattle.server.specs.ServedOrders.{IsCopyTold, IsSecondIn};
 
-use desk::{Folder, MendOrder};
+use desk::{Folder, MendOrder, PublishOrder};
 use office::Office;
 use sqlite::Alter;
 use std::alloc::{AllocError, Global};
 use streams::Sink;
 
-/// The destination of a copy or of a new office: a path relative to a folder.
+/// The destination of a copy, of a new office or of published results: a path relative to a folder.
 #[derive(Clone, Copy)]
 pub struct Destination<'a> {
     pub folder: &'a str,
     pub path: &'a str,
 }
 
-/// The file of the office that is served. It copies the open office to a new file, prints its journal, and makes another office
-/// from that journal in a new file; and it compares the office with a second record of it, and says where the office's own is. The office
+/// The file of the office that is served. It copies the open office to a new file, prints its journal, makes another office from that
+/// journal in a new file, and publishes its results in a new folder; and it compares the office with a second record of it, and says where the office's own is. The office
 /// stays open and is only read. The implementing program chooses the files.
 pub trait ServedFile {
     /// Whether the file of the office is permanently known to be whole, or permanently known not to be. Nothing is known about
@@ -36,7 +37,7 @@ pub trait ServedFile {
     /// Nothing is known about a real file on this machine.
     ghost moved: { Self → Type 0 };
 
-    /// That an order which makes a file ended with a status, given the file's folder, its path, and that status.
+    /// That an order which makes a file or a folder ended with a status, given the folder in which that is, its path, and that status.
     ghost ended: { Self → List ℕ → List ℕ → ℕ → Type 0 };
 
     /// What a text says of where the second record of the office is. Nothing is known about a real file on this machine.
@@ -96,6 +97,23 @@ pub trait ServedFile {
         requires err { E.failed err.old < 2 ^ 64 - 1 }
         ensures told { let outputs = outputs_of O.taken O.failed E.taken E.failed in Tells (outputs out.old err.old) (outputs out.new err.new) result
             (λ _ page. WhenOpenAt (state S.Store) office.old office.new (λ s. IsMendPage s asked.now page)) }
+        ensures stays { WhenOpenAt (state S.Store) office.old office.new (λ s. IsReadAt s office.new.closed (state S.Store office.new.held)) }
+        ensures ended { ended self.now to.entry.folder.now to.entry.path.now result }
+        ensures clean { HasCleanDisk (state S.Store office.new.held) → HasCleanDisk (state S.Store office.old.held) };
+
+    /// Publishes the results of the office in a new folder, and prints how many wards and files that has.
+    fn publish<S: Alter, O: Sink, E: Sink>(
+        &self,
+        office: &mut Office<S>,
+        asked: PublishOrder<'_>,
+        to: Destination<'_>,
+        out: &mut O,
+        err: &mut E,
+    ) -> u8
+        requires out { O.failed out.old < 2 ^ 64 - 1 }
+        requires err { E.failed err.old < 2 ^ 64 - 1 }
+        ensures told { let outputs = outputs_of O.taken O.failed E.taken E.failed in Tells (outputs out.old err.old) (outputs out.new err.new) result
+            (λ _ page. WhenOpenAt (state S.Store) office.old office.new (λ s. IsPublishTold s asked.entry page)) }
         ensures stays { WhenOpenAt (state S.Store) office.old office.new (λ s. IsReadAt s office.new.closed (state S.Store office.new.held)) }
         ensures ended { ended self.now to.entry.folder.now to.entry.path.now result }
         ensures clean { HasCleanDisk (state S.Store office.new.held) → HasCleanDisk (state S.Store office.old.held) };

@@ -8,7 +8,7 @@ ghost use Rattle.server.specs.ServedOrders.{AsksSo, IsForFile, asks_for_record};
 
 use crate::server_settings::FileNumbers;
 use desk::version::VERSION;
-use desk::{Failure, Job, MendOrder, Order, Task, WordsFault, order};
+use desk::{Failure, Job, MendOrder, Order, PublishOrder, Task, WordsFault, order};
 use order_protocol::{DecodeError, MessagePart, OrderMessage, decode_message};
 use std::alloc::Global;
 use store::Fault;
@@ -28,6 +28,8 @@ pub enum ServedOrder<'a> {
     Second(&'a str),
     /// To print where the second record of the office is.
     Record,
+    /// To publish the results in a new folder.
+    Publish(PublishOrder<'a>),
     /// Nothing: the order isn't carried out, for the given reason.
     Refused(Failure),
     /// Nothing: its words aren't an order.
@@ -99,6 +101,7 @@ pub fn served_order_by<'w>(alloc: Global, words: &'w [&'w str]) -> ServedOrder<'
         Ok(Order::Journal) => ServedOrder::Journal,
         Ok(Order::Mend(asked)) => ServedOrder::Mend(asked),
         Ok(Order::Second { path }) => ServedOrder::Second(path),
+        Ok(Order::Publish(asked)) => ServedOrder::Publish(asked),
         Ok(
             Order::Perform(Task::Init | Task::Migrate)
             | Order::Serve { .. }

@@ -14,3 +14,6 @@ pub mod Ties
 mod WorkedLots
 pub mod TieLaw
 mod SettledLaw
+pub mod Appended
+pub mod ResultsBack
+mod WorkedResults

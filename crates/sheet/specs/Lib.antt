@@ -1,4 +1,4 @@
--- Stage sheets, declarations, ballots, pages, tables and the index of wards.
+-- Stage sheets, declarations, ballots, pages, tables, results as JSON and the index of wards.
 pub mod Lines
 pub mod Pieces
 pub mod Writing
@@ -17,3 +17,4 @@ pub mod Ties
 pub mod Page
 pub mod Index
 pub mod Spreadsheet
+pub mod Results

@@ -110,7 +110,7 @@ fn most_votes(stages: &[Stage], c: u8) -> u64
 }
 
 /// Returns the number of stages before the one at which the given candidate is elected.
-fn elected_place(stages: &[Stage], c: u8) -> Option<usize>
+pub fn elected_place(stages: &[Stage], c: u8) -> Option<usize>
     ensures is { result ≡ elected_at_place stages.now c }
     ensures within { IfSome result (λ place. place < length stages.now) }
 {
@@ -118,7 +118,7 @@ fn elected_place(stages: &[Stage], c: u8) -> Option<usize>
 }
 
 /// Returns the number of stages before the one at which the given candidate is excluded.
-fn excluded_place(stages: &[Stage], c: u8) -> Option<usize>
+pub fn excluded_place(stages: &[Stage], c: u8) -> Option<usize>
     ensures is { result ≡ excluded_at_place stages.now c }
     ensures within { IfSome result (λ place. place < length stages.now) }
 {

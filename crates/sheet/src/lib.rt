@@ -1,9 +1,10 @@
-//! The printed texts of a ward: stage sheets, declarations, ballots, pages and tables; and an index page of all wards.
+//! The printed texts of a ward: stage sheets, declarations, ballots, pages, tables and results as JSON; and an index page of all
+//! wards.
 //!
 //! A [`Ward`] holds the data that they show, with its [`Poll`] if it is contested. [`write_sheet`], [`write_declaration`],
 //! [`write_ballots`] and [`write_page`] write them to a sink, and allocate nothing. [`sheet_text`] and similar functions return
-//! them as strings, and [`spreadsheet_text`] returns the table. [`can_be_printed`] checks the requirement that all of them share.
-//! [`write_index`] writes the page of all wards, each a [`ListedWard`].
+//! them as strings, [`spreadsheet_text`] returns the table, and [`results_text`] the JSON. [`can_be_printed`] checks the requirement
+//! that all of them share. [`write_index`] writes the page of all wards, each a [`ListedWard`].
 //!
 //! ```text
 //! let ward = Ward { number: 7, name: "Harbour", seats: 2, candidates: &candidates, poll: Some(poll) };
@@ -28,6 +29,7 @@ mod look;
 mod lots;
 mod page;
 mod settled_ties;
+mod results;
 mod sheets;
 mod spreadsheet;
 mod stage;
@@ -42,6 +44,7 @@ pub use index::{ListedWard, WardStanding, write_index};
 pub use lots::ties_are_of_the_count;
 pub use page::write_page;
 pub use settled_ties::settled_ties_are_of_the_count;
+pub use results::results_text;
 pub use sheets::write_sheet;
 pub use spreadsheet::spreadsheet_text;
 pub use texts::{ballots_text, declaration_text, index_text, page_text, sheet_text};

@@ -6,7 +6,9 @@ use super::clients::{Evening, LimitedWriter, Port, TestNetwork, joined, pages_of
 use super::loads::loads;
 use codes::Codes;
 use desk::perform::perform;
-use desk::{Failure, Folder, MendOrder, Order, copy_office, order, tell_failure, tell_words};
+use desk::{
+    Failure, Folder, MendOrder, Order, PublishOrder, copy_office, order, tell_failure, tell_words,
+};
 use office::{Answer, Office, ReadError, RunOutcome, Work};
 use register::Request;
 use server::{Destination, FileNumbers, ServeError, ServedFile, ServerSettings, serve_connections};
@@ -161,6 +163,7 @@ fn give<S: Alter + Drop, O: Sink, E: Sink>(
             | Order::Journal
             | Order::Second { .. }
             | Order::Mend(_)
+            | Order::Publish(_)
             | Order::Codes { .. }
             | Order::Slips { .. },
         ) => { (tell_failure(Failure::Output, err), conn) }
@@ -290,7 +293,7 @@ fn terms_of(held: &Option<Codes>) -> ServerSettings<'_, Unaided> {
     }
 }
 
-/// A file that can have no copy and no journal, from which no new office can be made, and with which no second record can be compared.
+/// A file that can have no copy, no journal and no published results, from which no new office can be made, and with which no second record can be compared.
 #[derive(Clone, Copy)]
 pub struct Unaided;
 
@@ -334,6 +337,17 @@ impl ServedFile for Unaided {
         &self,
         _office: &mut Office<S>,
         _asked: &MendOrder<'_>,
+        _to: Destination<'_>,
+        _out: &mut O,
+        err: &mut E,
+    ) -> u8 {
+        tell_failure(Failure::CopyFailed, err)
+    }
+
+    fn publish<S: Alter, O: Sink, E: Sink>(
+        &self,
+        _office: &mut Office<S>,
+        _asked: PublishOrder<'_>,
         _to: Destination<'_>,
         _out: &mut O,
         err: &mut E,

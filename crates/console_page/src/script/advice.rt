@@ -47,7 +47,7 @@ const AFTER_FAULT = {
   107: 'The reply couldn\u2019t be printed. The order may have been done: check the overview before you send it again.',
   108: 'This file was made by an earlier version of the program. Run migrate first, as described in the guide.',
   109: 'A file with this name already exists. Choose another name.',
-  110: 'The copy can\u2019t be written. Use a name without a slash, and check the free disk space.',
+  110: 'The copy or the folder can\u2019t be written. Use a name without a slash, and check the free disk space.',
   111: 'This can\u2019t be done while the office is being served. Stop serve first.',
   112: 'The second record can\u2019t be written, and nothing more is accepted. Stop serve, and start it with a new file after --second. Then send the order again.',
   113: 'The office\u2019s file was removed or replaced, and the office can\u2019t store anything. Don\u2019t stop serve. Fix this first, as described in the guide to refusals and faults (fault 113).',

@@ -80,6 +80,7 @@ const drawLog = () => {
 DRAW.journal = async (isNow) => {
   drawCopies();
   drawFiles();
+  drawPublication();
   drawLog();
   drawMending();
   await drawReceipts(isNow);

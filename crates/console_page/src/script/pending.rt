@@ -18,8 +18,8 @@ let wakeUp = () => {};
 const isUnknown = (answer) => !answer || answer.status >= 500;
 const isDone = (answer) => answer?.status === 200 && Number.isInteger(answer.says?.status);
 
-// Orders that make a file. Unless they are done, they change nothing else.
-const MAKES_FILE = /^(copy|mend|switch)$/;
+// Orders that make a file or a folder. Unless they are done, they change nothing else.
+const MAKES_FILE = /^(copy|mend|switch|publish)$/;
 
 // After these faults an order with an id may or may not have been done. The office does it once for its id, so it keeps that id.
 const OPEN_FAULTS = /(^|: )fault (101|102|103|104|107): /m;
@@ -93,9 +93,12 @@ const whyUnsent = (order, answer, turn) => {
   return [`${explainedAnswer(answer)} ${doubt}`, 0];
 };
 
-// If the reply to a copy was lost, the copy exists when the order is sent again: no other copy has its name.
-const replyTo = (order, says) =>
-  (order.words[0] === 'copy' && order.open && /^fault 109/.test(says.errors) ? {status: 0, output: 'copy already made\n', errors: ''} : says);
+// If the reply to a copy or to a publication was lost, the file or folder exists when the order is sent again: nothing else has its name.
+const LOST_REPLIES = {copy: 'copy already made\n', publish: 'results already published\n'};
+const replyTo = (order, says) => {
+  const output = order.open && /^fault 109/.test(says.errors) ? LOST_REPLIES[order.words[0]] : undefined;
+  return output ? {status: 0, output, errors: ''} : says;
+};
 
 const bodyOf = ({files, words}) => JSON.stringify({files: files ?? {}, words});
 const isTooLarge = (order) => new TextEncoder().encode(bodyOf(order)).length > MOST_BYTES;

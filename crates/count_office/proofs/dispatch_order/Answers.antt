@@ -1,4 +1,4 @@
--- Proof that `dispatch_order` meets its contract for the order to serve, whose words are those of the serving, for the order to mend, and for the order to compare.
+-- Proof that `dispatch_order` meets its contract for the order to serve, whose words are those of the serving, for the order to mend, for the order to publish, and for the order to compare.
 use Rattle.std.proofs.Common.{◌≡◌, ◌∙◌, ℕ, List, ap, refl, subst, sym}
 use Rattle.std.specs.Borrow.{Bor}
 use Rattle.sqlite.specs.Effect.{Database}
@@ -10,10 +10,12 @@ use Rattle.store.specs.Openings.{IsLeftAt}
 use Rattle.connections.specs.Streams.{stream_of}
 use Rattle.desk.specs.Mends.{IsMendPage}
 use Rattle.desk.specs.Pages.{IsErrorTold, Tells, outputs_of}
+use Rattle.desk.specs.Publications.{IsPublishTold}
 use Rattle.desk.specs.Seconds.{IsSecondPage}
 use Rattle.desk.specs.declared.orders.MendOrder.{MendOrder}
 use Rattle.desk.specs.declared.orders.Order.{Order}
 use Rattle.desk.specs.declared.orders.Order.TheVariants as order
+use Rattle.desk.specs.declared.orders.PublishOrder.{PublishOrder}
 use Rattle.count_office.specs.Serving.{ServesWith}
 use Rattle.count_office.specs.declared.serving.Serving.{Serving}
 use Rattle.count_office.proofs.dispatch_order.Goals as goal
@@ -63,3 +65,19 @@ returns-in-Second-clause-seconds g c = λ path is.
     subst (λ (p : Bor (List ℕ)). Tells (outputs c.args.out.now c.args.err.now) (outputs c.second.new.out c.second.new.err) c.second.result.0
     (λ _ page. HasCleanDisk (state g.S.Store c.second.result.1) → (db : Database) → RestsAt db (state g.S.Store c.args.conn) → (s : OfficeState) → IsLeftAt s db → IsSecondPage s p.now page))
     (same_path c.in-Second.path path (sym c.in-Second.is ∙ is)) c.second.ensures.told
+
+-- the words of an order to publish
+publishing_in : PublishOrder → Order → PublishOrder
+publishing_in none (order.Publish asked) = asked
+publishing_in none other = none
+
+same_publishing : (one other : PublishOrder) → order.Publish one ≡ order.Publish other → one ≡ other
+unfolding publishing_in
+same_publishing one other same = ap (publishing_in one) same
+
+pub returns-in-Publish-clause-publishes : goal.returns-in-Publish-clause-publishes
+returns-in-Publish-clause-publishes g c = λ asked is.
+    let outputs = outputs_of g.O.Sink.taken g.O.Sink.failed g.E.Sink.taken g.E.Sink.failed in
+    subst (λ (p : PublishOrder). Tells (outputs c.args.out.now c.args.err.now) (outputs c.publish.new.out c.publish.new.err) c.publish.result.0
+    (λ _ page. HasCleanDisk (state g.S.Store c.publish.result.1) → (db : Database) → RestsAt db (state g.S.Store c.args.conn) → (s : OfficeState) → IsLeftAt s db → IsPublishTold s p page))
+    (same_publishing c.in-Publish.asked asked (sym c.in-Publish.is ∙ is)) c.publish.ensures.told

@@ -39,7 +39,19 @@ returns-in_err-command_named-in-None-clause-unknown c = λ unknown.
                                 d.not-page,
                                 (
                                   d.not-table,
-                                  (d.not-index, (d.not-serve, (d.not-forms, (d.not-journal, (d.not-replay, (d.not-second, (d.not-copy, (d.not-mend, (d.not-switch, (d.not-codes, tt)))))))))),
+                                  (
+                                    d.not-index,
+                                    (
+                                      d.not-serve,
+                                      (
+                                        d.not-forms,
+                                        (
+                                          d.not-journal,
+                                          (d.not-replay, (d.not-second, (d.not-copy, (d.not-mend, (d.not-switch, (d.not-codes, (d.not-publish, tt))))))),
+                                        ),
+                                      ),
+                                    ),
+                                  ),
                                 ),
                               ),
                             ),

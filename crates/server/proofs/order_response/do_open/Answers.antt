@@ -44,6 +44,11 @@ returns-in-Copy-clause-did g c =
     let told = c.copy_for_order.ensures.told in
     record { page = told.page; cut = told.cut; shown = told.shown; is = λ clean is_open s at. let it = told.is clean is_open s at in rw c.in-Copy.is (it.0, it.1, refl) }
 
+pub returns-in-Publish-clause-did : goal.returns-in-Publish-clause-did
+returns-in-Publish-clause-did g c =
+    let told = c.publish_for_order.ensures.told in
+    record { page = told.page; cut = told.cut; shown = told.shown; is = λ clean is_open s at. let it = told.is clean is_open s at in rw c.in-Publish.is (it.0, it.1, refl) }
+
 pub returns-in-Do-clause-did : goal.returns-in-Do-clause-did
 returns-in-Do-clause-did g c =
     let told = c.follow_recorded-status.ensures.did in
@@ -53,9 +58,12 @@ returns-in-Do-clause-did g c =
 pub returns-in-Do-clause-fails : goal.returns-in-Do-clause-fails
 returns-in-Do-clause-fails g c = λ had has. sym c.follow_recorded-status.ensures.same ∙ c.has_failed.ensures.recorded has
 
--- a copy and a new office are made in the file that the order's path means, or in none
+-- a copy, a new office and published results are made where the order's path means, or nowhere
 pub returns-in-Copy-clause-ended : goal.returns-in-Copy-clause-ended
 returns-in-Copy-clause-ended g c = rw c.in-Copy.is (c.copy_for_order.ensures.somewhere, c.copy_for_order.ensures.nowhere)
 
 pub returns-in-Mend-clause-ended : goal.returns-in-Mend-clause-ended
 returns-in-Mend-clause-ended g c = rw c.in-Mend.is (c.mend_for_order.ensures.somewhere, c.mend_for_order.ensures.nowhere)
+
+pub returns-in-Publish-clause-ended : goal.returns-in-Publish-clause-ended
+returns-in-Publish-clause-ended g c = rw c.in-Publish.is (c.publish_for_order.ensures.somewhere, c.publish_for_order.ensures.nowhere)

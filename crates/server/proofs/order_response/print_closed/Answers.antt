@@ -31,3 +31,7 @@ returns-in-Record g c =
 pub returns-in-Mend : goal.returns-in-Mend
 returns-in-Mend g c =
     rw c.in-Mend.is (error_shown g.O.Sink.taken g.O.Sink.failed g.E.Sink.taken g.E.Sink.failed _ _ _ closed_page c.tell_failure-in-Mend.result refl c.tell_failure-in-Mend.ensures)
+
+pub returns-in-Publish : goal.returns-in-Publish
+returns-in-Publish g c =
+    rw c.in-Publish.is (error_shown g.O.Sink.taken g.O.Sink.failed g.E.Sink.taken g.E.Sink.failed _ _ _ closed_page c.tell_failure-in-Publish.result refl c.tell_failure-in-Publish.ensures)
