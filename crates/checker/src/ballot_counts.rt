@@ -20,7 +20,9 @@ use crate::records::read_records;
 use crate::records_ward::RecordsWard;
 use crate::wards::{Election, candidates_of, ward_in};
 use count::CountEnd;
-use sheet::{ballots_text, declaration_text, page_text, results_text, sheet_text, spreadsheet_text};
+use sheet::{
+    ballots_text, declaration_text, page_text, results_text, sheet_text, spreadsheet_text,
+};
 use std::alloc::{AllocError, Global};
 
 /// A text of the count of a ward, as an office prints it.

@@ -87,14 +87,16 @@ const TABLE: &str =
 "#;
 
 /// The result of that ward as JSON.
-const RESULTS: &str = r#"{"ward":7,"name":"Harbour","seats":2,"declared":true,"contested":true,"valid":9,"rejected":[0,0,0,0,0],"quota":"4.00000","candidates":[{"number":1,"name":"Ann","elected":true,"elected_at":1,"excluded_at":null},{"number":2,"name":"Bob","elected":false,"elected_at":null,"excluded_at":3},{"number":3,"name":"Cy","elected":true,"elected_at":3,"excluded_at":null}],"stages":[{"stage":1,"action":"first preferences","of":null,"votes":["6.00000","1.00000","2.00000"],"non_transferable":"0.00000","lost":"0.00000"},{"stage":2,"action":"surplus","of":1,"votes":["4.00000","2.33332","2.66666"],"non_transferable":"0.00000","lost":"0.00002"},{"stage":3,"action":"exclusion, last vacancies","of":2,"votes":["4.00000","2.33332","2.66666"],"non_transferable":"0.00000","lost":"0.00002"}],"lots":[]}
+const RESULTS: &str =
+    r#"{"ward":7,"name":"Harbour","seats":2,"declared":true,"contested":true,"valid":9,"rejected":[0,0,0,0,0],"quota":"4.00000","candidates":[{"number":1,"name":"Ann","elected":true,"elected_at":1,"excluded_at":null},{"number":2,"name":"Bob","elected":false,"elected_at":null,"excluded_at":3},{"number":3,"name":"Cy","elected":true,"elected_at":3,"excluded_at":null}],"stages":[{"stage":1,"action":"first preferences","of":null,"votes":["6.00000","1.00000","2.00000"],"non_transferable":"0.00000","lost":"0.00000"},{"stage":2,"action":"surplus","of":1,"votes":["4.00000","2.33332","2.66666"],"non_transferable":"0.00000","lost":"0.00002"},{"stage":3,"action":"exclusion, last vacancies","of":2,"votes":["4.00000","2.33332","2.66666"],"non_transferable":"0.00000","lost":"0.00002"}],"lots":[]}
 "#;
 
 /// Two candidates for three seats, and no papers; a name with a quotation mark, a backslash and a tab.
 const HOSTILE: &str = "2 3\n0\n\"A\\\"n\\\\n\"\n\"B\tob\"\n\"Harbour\"\n";
 
 /// Its result as JSON.
-const HOSTILE_RESULTS: &str = r#"{"ward":1,"name":"Harbour","seats":3,"declared":true,"contested":false,"valid":null,"rejected":null,"quota":null,"candidates":[{"number":1,"name":"A\"n\\n","elected":true,"elected_at":null,"excluded_at":null},{"number":2,"name":"B\tob","elected":true,"elected_at":null,"excluded_at":null}],"stages":[],"lots":[]}
+const HOSTILE_RESULTS: &str =
+    r#"{"ward":1,"name":"Harbour","seats":3,"declared":true,"contested":false,"valid":null,"rejected":null,"quota":null,"candidates":[{"number":1,"name":"A\"n\\n","elected":true,"elected_at":null,"excluded_at":null},{"number":2,"name":"B\tob","elected":true,"elected_at":null,"excluded_at":null}],"stages":[],"lots":[]}
 "#;
 
 /// Two candidates for three seats, and no papers.

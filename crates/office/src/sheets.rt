@@ -60,9 +60,7 @@ impl<'a> WardText<'a> {
             | WardText::Ballots
             | WardText::Page(_)
             | WardText::Table
-            | WardText::Results => {
-                matches!(phase, Phase::Sealed | Phase::Declared)
-            }
+            | WardText::Results => { matches!(phase, Phase::Sealed | Phase::Declared) }
         }
     }
 }
