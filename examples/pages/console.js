@@ -200,17 +200,18 @@ const PLAYS = {
     await later.click('tab journal', {sent: [], mending: /It isn\u2019t known/, 'other hidden': true});
     await window.another({receipts: NEW_RECEIPTS}).sees({result: /^The office is now town-6\.db/, 'other hidden': true});
   }),
-  'the results are published once read back, with ballots only if asked': play(Console,
-    [{ward: {phase: 'sealed'}, orders: [['published 1 wards, 7 files\n'], [null], ['', 'fault 109: copy is there already\n', 3]]}], async (window) => {
-      await window.click('tab journal').type('title publication', 'Town');
-      await window.click('publish', {question: /^Publish the results\? Folder: results-\S+, next to .*Title: TownWithout ballotsWard: 7Not declared yet: ward 7\./});
-      await window.click('ask-no', {sent: []}).order('publish', {result: /^Done: publish the results in results-\S+\.published 1 wards, 7 files/});
-      await window.click('publish-ballots').click('publish', {question: /With the ballots of each ward/}).press(['y'], {unsent: /Not confirmed yet: publish/});
-      // If the reply was lost, the folder is there when the order is sent again.
-      await window.pass(2, {result: /^Done: publish .*results already published/});
-      const [first, second, again] = window.sent();
-      assert.deepEqual([first.slice(2), second.slice(2), again], [['--title=Town'], ['--title=Town', '--ballots'], second]);
-    }),
+  'the results are published once read back, with ballots only if asked': play(Console, [{ward: {phase: 'sealed'},
+    orders: [['published 1 wards, 7 files\n'], [null], ['', 'fault 109: copy is there already\n', 3]]}], async (window) => {
+    const asked = /^Publish the results\? Folder: results-\S+, next to .*Title: TownWithout ballotsWard: 7Not declared yet: ward 7\./;
+    await window.click('tab journal').type('title publication', 'Town').click('publish', {question: asked}).click('ask-no', {sent: []});
+    await window.order('publish', {result: /^Done: publish the results in results-\S+\.published 1 wards, 7 files/});
+    await window.click(['publish-ballots', 'publish'], {question: /With the ballots of each ward/});
+    await window.press(['y'], {unsent: /Not confirmed yet: publish/});
+    // If the reply was lost, the folder is there when the order is sent again.
+    await window.pass(2, {result: /^Done: publish .*results already published/});
+    const [first, second, again] = window.sent();
+    assert.deepEqual([first.slice(2), second.slice(2), again], [['--title=Town'], ['--title=Town', '--ballots'], second]);
+  }),
   'the forms of a ward are offered where they are needed, and saved as the office prints them': async (page) => {
     const ward = {phase: 'keying', batches: 2, taken: 2, doubtful_open: 1};
     const doubtful = [{batch: 12, code: 0, marks: '', paper: 3, preferences: [], verdict: 'open'}];

@@ -67,9 +67,9 @@ class Publication:
     def disturbed(self, place, is_late, command):
         """Publishes while another program has something at a path, or puts it there meanwhile. That has to stay as it is."""
         def disturb():
-            waited((self.office.folder / place).parent.exists)
+            waited(lambda: not is_late or (self.office.folder / PART).exists())
             ran(*command.replace("{}/", f"{self.office.folder}/").format(place).split(), cwd=self.office.folder)
-            return {name: what for name, what in tree(self.out).items() if f"out/{name}".startswith(place)}
+            return {name: what for name, what in tree(self.out).items() if f"out/{name}/".startswith(place + "/")}
         with ThreadPoolExecutor(1) as pool:
             theirs = pool.submit(disturb)
             printed = ended(self.start(under=SLOWLY) if is_late else theirs.result() and self.start())
