@@ -112,21 +112,22 @@ def try_published(room, wards=5, runs=100, seed=1):
     here = Publication(room / "office", wards, random.Random(seed))
     table = Table(f"What is published ({wards} wards, seed {seed})", "runs", "the folder is there")
 
-    def row(what, act, words):
+    def row(what, act, words, least=0):
         found = []
         for each in words:
             shutil.rmtree(here.out, ignore_errors=True)
             here.out.mkdir()
             with about(f"{what}: {each}"):
                 found.append(act(*each))
-        table.row(what, len(found), sum(map(bool, found)))
-    row("typed alone", here.published, CASES)
+        table.row(what, len(found), there := sum(map(bool, found)))
+        wrong_if(there < least, f"{what}: it isn't published, although it could be")
+    row("typed alone", here.published, CASES, len(CASES))
     with here.office.serve().wait():
-        row("typed while the office is served", here.published, CASES)
+        row("typed while the office is served", here.published, CASES, len(CASES))
     row("something of another program is there", here.disturbed, [(*place, command) for place in PLACES for command in FOREIGN])
     for is_served, what in ((False, "the order is killed"), (True, "`serve` is killed")):
         row(what, here.killed, [(is_served,)] * runs)
     sizes = range(1, 2 + sum(-(-len(text) // BLOCK) for _, text in here.whole.values()) if os.geteuid() == 0 else 1)
     row("the disk is too small, or just large enough",
-        lambda size: full_disk(here.out, size * BLOCK)(here.published)(TITLE, "--ballots"), [(size,) for size in sizes])
+        lambda size: full_disk(here.out, size * BLOCK)(here.published)(TITLE, "--ballots"), [(size,) for size in sizes], len(sizes) > 0)
     row("a byte is changed, and `- check FOLDER` finds it", here.noticed, [(number,) for number in range(5 * runs)])
