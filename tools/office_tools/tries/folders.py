@@ -25,7 +25,7 @@ def tree(folder):
             (path.stat().st_mode, path.read_bytes() if path.is_file() else b"") for path in folder.rglob("*")}
 
 class Publication:
-    """An office of made-up wards that are declared; of one without a poll, one that waits for a lot, and one that isn't sealed."""
+    """An office of made-up wards that are declared; and, from 97 on, one without a poll, one that waits for a lot, and one in keying."""
 
     def __init__(self, folder, wards, chance):
         self.office, self.chance, self.out, made = Office(folder), chance, folder / "out", [Ward(chance) for _ in range(wards)]
@@ -37,8 +37,7 @@ class Publication:
         self.office.replay([*others, "seal 98 --id s98", "count 98 --id a98"])
         self.printed = functools.cache(lambda *words: self.office.do(*words).encode())
         self.counts = {number: Count(Ballots(self.printed("ballots", number))) for number in (*range(1, wards + 1), 97, 98)}
-        self.declared, self.rows = range(1, wards + 1), self.office.rows()
-        self.start = functools.partial(self.office.start, "publish", RESULTS, umask=0o77)
+        self.rows, self.start = self.office.rows(), functools.partial(self.office.start, "publish", RESULTS, umask=0o77)
 
     def published(self, title, *options):
         """Publishes the results, and compares the folder with what orders print, and with the recount. Returns whether there was room."""
@@ -49,7 +48,7 @@ class Publication:
         texts = {"index.html": self.printed("index", *words)} | {
             f"ward-{number}{ending}": self.printed(order, number, *words if order == "page" else [])
             for number in self.counts for ending, order in TEXTS.items()
-            if (order != "result" or number in self.declared) and (order != "ballots" or options)}
+            if (order != "result" or number < 97) and (order != "ballots" or options)}
         folder, names, self.whole = self.out / "results", [*texts, "results.json", "check.html"], tree(self.out)
         found = {path.name: path.read_bytes() for path in folder.iterdir()}
         sums = "".join(f"{hashlib.sha256(found[name]).hexdigest()}  {name}\n" for name in names)
@@ -57,9 +56,9 @@ class Publication:
         expect("digests", (found[SUMS].decode(), ran("sha256sum", "-c", "--strict", "--quiet", SUMS, cwd=folder)), (sums, (0, "", "")))
         for name, text in texts.items():
             compare(name, LINKS.sub(b"", found[name]), text)
-        results = [json.loads(count.results()) | {"declared": number in self.declared} for number, count in self.counts.items()]
+        results = [json.loads(count.results()) | {"declared": number < 97} for number, count in self.counts.items()]
         expect("results.json", json.loads(found["results.json"]), {"title": title, "wards": results})
-        for name in (name for name in names if name.endswith(".html")):
+        for name in filter(lambda name: name.endswith(".html"), names):
             linked, others = {*LINK.findall(found[name].decode())} - {"data:,"}, {*found} - {name}
             expect(f"links of {name}", linked, others if name == "index.html" else linked & others | {"index.html"})
         return not expect("the reply", printed, (0, f"published {len(self.counts)} wards, {len(found)} files\n", ""))
@@ -108,17 +107,15 @@ def try_published(room, wards=5, runs=100, seed=1):
     of the ballots; SHA256SUMS lists all files. What another program has at FOLDER, at FOLDER.part or in it, or puts there, stays as it is,
     and the order prints fault 109 or 110. The order, and `serve`, are killed RUNS times: FOLDER is there, whole; or only its owner may open
     FOLDER.part. Given by root, FOLDER is also on disks that are too small. Last `- check FOLDER` finds each of 5 RUNS changed bytes."""
-    needs("strace", "sha256sum")
-    here = Publication(room / "office", wards, random.Random(seed))
-    table = Table(f"What is published ({wards} wards, seed {seed})", "runs", "the folder is there")
+    needs("strace")
+    here, table = Publication(room / "office", wards, random.Random(seed)), Table(f"{wards} wards, seed {seed}", "runs", "folder is there")
 
     def row(what, act, words, least=0):
         found = []
         for each in words:
             shutil.rmtree(here.out, ignore_errors=True)
             here.out.mkdir()
-            with about(f"{what}: {each}"):
-                found.append(act(*each))
+            found.append(about(f"{what}: {each}")(act)(*each))
         table.row(what, len(found), there := sum(map(bool, found)))
         wrong_if(there < least, f"{what}: it isn't published, although it could be")
     row("typed alone", here.published, CASES, len(CASES))
