@@ -200,6 +200,18 @@ const PLAYS = {
     await later.click('tab journal', {sent: [], mending: /It isn\u2019t known/, 'other hidden': true});
     await window.another({receipts: NEW_RECEIPTS}).sees({result: /^The office is now town-6\.db/, 'other hidden': true});
   }),
+  'the results are published once read back, with ballots only if asked': play(Console, [{ward: {phase: 'sealed'},
+    orders: [['published 1 wards, 7 files\n'], [null], ['', 'fault 109: copy is there already\n', 3]]}], async (window) => {
+    const asked = /^Publish the results\? Folder: results-\S+, next to .*Title: TownWithout ballotsWard: 7Not declared yet: ward 7\./;
+    await window.click('tab journal').type('title publication', 'Town').click('publish', {question: asked}).click('ask-no', {sent: []});
+    await window.order('publish', {result: /^Done: publish the results in results-\S+\.published 1 wards, 7 files/});
+    await window.click(['publish-ballots', 'publish'], {question: /With the ballots of each ward/});
+    await window.press(['y'], {unsent: /Not confirmed yet: publish/});
+    // If the reply was lost, the folder is there when the order is sent again.
+    await window.pass(2, {result: /^Done: publish .*results already published/});
+    const [first, second, again] = window.sent();
+    assert.deepEqual([first.slice(2), second.slice(2), again], [['--title=Town'], ['--title=Town', '--ballots'], second]);
+  }),
   'the forms of a ward are offered where they are needed, and saved as the office prints them': async (page) => {
     const ward = {phase: 'keying', batches: 2, taken: 2, doubtful_open: 1};
     const doubtful = [{batch: 12, code: 0, marks: '', paper: 3, preferences: [], verdict: 'open'}];
@@ -241,6 +253,9 @@ const PLANTED = {
   'covers are offered without batches': ['batches.length ? formButton(', 'true ? formButton('],
   'the second record is looked at once': ['Date.now() - recording.at < RECORD_AFTER', 'recording.lines.length'],
   'a warning about the second record looks like any line': ['recording.lines.length > 1 ?', 'recording.lines.length > 9 ?'],
+  'the results are published without a question': ['if (isSure) await order(`publish', 'await order(`publish'],
+  'ballots are published unasked': ['...(withBallots ? [\'--ballots\'] : [])', '\'--ballots\''],
+  'a publication is taken for refused if its reply was lost': ['publish: \'results already published\\n\'', ''],
   'of three equal batches two are named': ['[...groups.get(first) ?? [], batch, twin]', '[batch, twin]'],
 };
 

@@ -1,5 +1,5 @@
 """A count of ballots apart from the program, written from the text of the Order alone, as tellers do it who lay papers into parcels."""
-import collections, itertools, re
+import collections, itertools, json, re
 
 from office_tools.office import Wrong
 

@@ -73,9 +73,9 @@ def package(files, version, time):
 
 # The pages in their order, by their paths below docs/.
 PAGES = ["officer/README", "officer/evening", "officer/by-words", "officer/when-it-says-no", "officer/putting-right",
-         "officer/tellers", "officer/agents", "officer/installing", "officer/network", "officer/rules", "officer/glossary",
+         "officer/disk-gone", "officer/tellers", "officer/agents", "officer/installing", "officer/network", "officer/rules", "officer/glossary",
          "formats/README", "formats/orders", "formats/files", "formats/sheets", "formats/ballots", "formats/records",
-         "formats/http", "formats/console-api", "formats/screen-api", "formats/tables", "formats/faults"]
+         "formats/results", "formats/publication", "formats/http", "formats/console-api", "formats/screen-api", "formats/tables", "formats/faults"]
 
 def slug(text):
     """Returns the name of a heading in links, as the pages use it: lower case, hyphens for blanks, no other signs."""

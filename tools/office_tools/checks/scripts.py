@@ -96,8 +96,8 @@ def check_script(room, file: Path = None):
 
     A clerk is denied, lists batches, keys papers and sends them, and the office accepts the keying, refuses it, fails or doesn't answer.
     The screen in the hall shows wards of an office that changes, and that may be down. The officer at the console seals a ward, is warned
-    of batches that have the same papers, puts orders right in a new office, and downloads forms; `tools/try console-evening` plays whole
-    evenings there. Then faults are planted in the pages, and each must be noticed. FILE is a page for clerks as a program serves it."""
+    of batches that have the same papers, puts orders right in a new office, publishes the results, and downloads forms; `tools/try
+    console-evening` plays whole evenings there. Then faults are planted in the pages, and each must be noticed. FILE is a page for clerks as a program serves it."""
     needs("node")
     wrong_if(not (MODULES / "jsdom").exists(), "jsdom is missing; on Debian: apt-get install node-jsdom")
     chance, clerks = random.Random(11), file.read_text(encoding="utf-8") if file else page_of_sources()[0]

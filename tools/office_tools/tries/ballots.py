@@ -50,7 +50,7 @@ class Election:
     def compare_sheet(self, served):
         compare("sheet", served(f"/wards/{self.number}/sheet"), self.count.sheet())
         if self.count.waits:
-            compare_counted(self.first, ["--count", "-"], self.count, {"": self.count.sheet()})
+            compare_counted(self.first, ["--count", "-"], self.count, {"": self.count.sheet(), "--results": self.count.results()})
 
     def compare_all(self, served, told):
         """Compares all texts of the ward, which is declared."""
@@ -58,7 +58,7 @@ class Election:
         compare("result", served(f"/wards/{self.number}/result"), declaration)
         compare("ballots", told("ballots", self.number), ballots)
         texts = {"": self.count.sheet(), "--declaration": declaration, "--table": told("table", self.number),
-                 "--ballots": ballots, "--page --title Spring": told("page", self.number, "--title", "Spring")}
+                 "--results": self.count.results(), "--ballots": ballots, "--page --title Spring": told("page", self.number, "--title", "Spring")}
         compare_counted(self.first, ["--count", "-"], self.count, texts)
 
 def play(wards, folder):
@@ -230,7 +230,8 @@ def compare_read(content):
         count = Count(Ballots(content))
         is_among = not count.waits or count.waits[0] not in count.lots
         if is_among and (count.waits or not count.lots or not count.is_contested):
-            compare_counted(content, ["--count", "-"], count, {"": count.sheet(), "--ballots": written(count.ballots.lines())}, {})
+            texts = {"": count.sheet(), "--results": count.results(), "--ballots": written(count.ballots.lines())}
+            compare_counted(content, ["--count", "-"], count, texts, {})
             return "counted"
         refused = b"error: a lot is recorded for stage " if is_among else b"error: the lot for stage %d " % count.waits[0]
     except Unreadable as error:
@@ -374,7 +375,7 @@ def compared(content, seats, candidates, chance):
     words = ["--count", "-", "--seats", str(seats), "--name", WARD, *(word for name in candidates for word in ("--candidate", name))]
     try:
         for count in counts(lines := Records(content, seats, candidates).lines(), chance.choice):
-            texts = {"": count.sheet()} | ({} if count.waits else {"--ballots": written(lines)})
+            texts = {"": count.sheet(), "--results": count.results()} | ({} if count.waits else {"--ballots": written(lines)})
             compare_counted(content, words, count, texts)
         return "counted"
     except Unreadable as error:
