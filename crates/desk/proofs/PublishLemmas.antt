@@ -2,7 +2,7 @@
 use Rattle.std.proofs.Common.{◌≡◌, ◌⊎◌, ◌∙◌, ◌++◌, ◌<◌, ◌≤◌, ◌+◌, ℕ, suc, Bool, true, false, true≢false, List, [], ◌∷◌, Option, Some, None, Result, Ok, Err, IfOk}
 use Rattle.std.proofs.Common.{drop, get_or, length, map}
 use Rattle.std.proofs.Common.{inl, inr, refl, sym, ap, arith, subst, cond, add-one, append_assoc, append-nil, drop-cons}
-use Rattle.std.specs.Prelude.{◌&&◌, IfSome, IsSomeAnd, OnOk, if◌then◌else◌, option_map}
+use Rattle.std.specs.Prelude.{◌&&◌, IfErr, IfSome, IsSomeAnd, OnOk, if◌then◌else◌, option_map}
 use Rattle.std.specs.List.{AllByRecursion, filter, flat_map}
 use Rattle.std.specs.Result.{IsErrAnd}
 use Rattle.std.proofs.lemmas.Bool.{and_parts}
@@ -94,6 +94,12 @@ module _ {S : Type 0} {state_of : Held S → State} where
   reads_stopped why one =
       record { shows = λ clean is_open s at. tt; opens = λ clean is_open s at. tt; stays = one.stays; fails = λ clean is_open s at. why; reads = one.reads }
 
+  -- the result of a read, and then a call that can only fail for want of memory
+  pub reads_last : {X Y K : Type 0} {P : OfficeState → X → Type 0} {Q : OfficeState → Y → Type 0} {old new : OfficeValue S} {x : X} (r : Result Y Fault) → Reads state_of old new (Ok x) P
+      → IfErr r (λ f. f ≡ fault.Memory) → OnOk r K → (K → (y : Y) (s : OfficeState) → IsState s → P s x → Q s y) → Reads state_of old new r Q
+  reads_last (Ok y) one failed kept told = reads_as one (told kept y)
+  reads_last (Err f) one failed kept told = reads_stopped (inl failed) one
+
   -- a failure of a read that is passed on
   pub reads_failed : {X Y : Type 0} {P : OfficeState → X → Type 0} {Q : OfficeState → Y → Type 0} {old new : OfficeValue S} {f : Fault} {r : Result Y Fault} → IsErrAnd r (λ e. e ≡ f)
       → Reads state_of old new (Err f) P → Reads state_of old new r Q
@@ -130,8 +136,7 @@ module _ {S : Type 0} {state_of : Held S → State} where
   }
 
   -- the office returned a fault
-  pub read_failed : {X Y Z : Type 0} {P : OfficeState → Z → Type 0} {f : Fault} {view : Y → X} {answer : OfficeState → Result X Reason} {old new : OfficeValue S}
-      → OnlyReads (state_of old.held) (state_of new.held) → WhenOpenAt state_of old new (λ s. IsKeptOpen s f new.closed (state_of new.held) ⊎ IsClosedReading s f new.closed (state_of new.held))
+  pub read_failed : {Z : Type 0} {P : OfficeState → Z → Type 0} {f : Fault} {old new : OfficeValue S} → OnlyReads (state_of old.held) (state_of new.held) → WhenOpenAt state_of old new (λ s. IsKeptOpen s f new.closed (state_of new.held) ⊎ IsClosedReading s f new.closed (state_of new.held))
       → Reads state_of old new (Err f) P
   read_failed {old = old} {new = new} reads told = record {
     shows = λ clean is_open s at. tt;
@@ -243,15 +248,16 @@ published_all {A = A} f view xs k before all past so_far =
 one_by_one : (title : Text) (with_ballots : Bool) (s : OfficeState) (ws : List WardEntry) → flat_map (ward_published title with_ballots s) ws
     ≡ map (λ (w : WardEntry). texts_of title with_ballots (election_of s w)) (filter (λ (w : WardEntry). is_counted w.phase) ws)
 one_by_one title with_ballots s [] = refl
-one_by_one title with_ballots s (w ∷ ws) = by (is_counted w.phase)
+one_by_one title with_ballots s (w ∷ ws) = by (is_counted w.phase) (one_by_one title with_ballots s ws)
   where
     texts : WardEntry → PublishedWard
     texts v = texts_of title with_ballots (election_of s v)
 
-    by : (b : Bool) → (if b then texts w ∷ [] else []) ++ flat_map (ward_published title with_ballots s) ws
+    by : (b : Bool) → flat_map (ward_published title with_ballots s) ws ≡ map texts (filter (λ (v : WardEntry). is_counted v.phase) ws)
+        → (if b then texts w ∷ [] else []) ++ flat_map (ward_published title with_ballots s) ws
         ≡ map texts (if b then w ∷ filter (λ (v : WardEntry). is_counted v.phase) ws else filter (λ (v : WardEntry). is_counted v.phase) ws)
-    by true = ap (λ rest. texts w ∷ rest) (one_by_one title with_ballots s ws)
-    by false = one_by_one title with_ballots s ws
+    by true more = ap (λ rest. texts w ∷ rest) more
+    by false more = more
 
 pub published_wards : (title : Text) (with_ballots : Bool) (s : OfficeState) → flat_map (ward_published title with_ballots s) s.wards ≡ wards_published title with_ballots s
 published_wards title with_ballots s = one_by_one title with_ballots s s.wards
@@ -291,6 +297,33 @@ pub puts_stopped : (old mid new : Option FolderEntry) (files : List FileEntry) (
 puts_stopped None mid new files why so_far stopped = tt
 puts_stopped (Some f) mid new files why so_far stopped = λ private. (subst (λ held. FailsFolder held new why) (so_far private) stopped) private
 
+-- files, and then a call that makes the folder public, or fails
+pub puts_end : {X : Type 0} (r : Result X FolderFault) (old mid new : Option FolderEntry) (files : List FileEntry) → PutsFiles old mid files → OnOk r (GoesPublic mid new)
+    → OnOk r (Publishes old new files)
+puts_end (Ok x) old mid new files so_far last = puts_all old mid new files so_far last
+puts_end (Err why) old mid new files so_far last = tt
+
+pub puts_fail : {X : Type 0} (r : Result X FolderFault) (old mid new : Option FolderEntry) (files : List FileEntry) → PutsFiles old mid files → IfErr r (FailsFolder mid new)
+    → IfErr r (FailsFolder old new)
+puts_fail (Ok x) old mid new files so_far last = tt
+puts_fail (Err why) old mid new files so_far last = puts_stopped old mid new files why so_far last
+
+-- a failure that is passed on
+pub fails_on : {X : Type 0} (r : Result X FolderFault) (old new : Option FolderEntry) (why : FolderFault) → IsErrAnd r (λ e. e ≡ why) → FailsFolder old new why → IfErr r (FailsFolder old new)
+fails_on (Ok x) old new why is failed = absurd is
+fails_on (Err e) old new why is failed = subst (FailsFolder old new) (sym is) failed
+
+-- if the files so far, followed by the remaining ones, are all files, then this still holds after the next file
+pub files_more : {A : Type 0} (view : A → FileEntry) (xs : List A) (k : ℕ) (x : A) (before : List FileEntry) → k < length xs → x ≡ get_or xs k x → before ++ map view (drop k xs) ≡ map view xs
+    → (before ++ view x ∷ []) ++ map view (drop (k + 1) xs) ≡ map view xs
+files_more {A = A} view xs k x before within is so_far =
+    let left : drop k xs ≡ x ∷ drop (k + 1) xs = rw add-one (drop-cons xs k x within ∙ ap (λ (y : A). y ∷ drop (suc k) xs) (sym is)) in
+    append_assoc before (view x ∷ []) (map view (drop (k + 1) xs)) ∙ ap (λ (ys : List A). before ++ map view ys) (sym left) ∙ so_far
+
+-- and after the last one
+pub files_all : {A : Type 0} (view : A → FileEntry) (xs : List A) (k : ℕ) (before : List FileEntry) → length xs ≤ k → before ++ map view (drop k xs) ≡ map view xs → before ≡ map view xs
+files_all {A = A} view xs k before past so_far = sym (append-nil before) ∙ ap (λ (ys : List A). before ++ map view ys) (sym (drop_all k xs past)) ∙ so_far
+
 -- ---- the outcome
 
 -- what is reported is true for any office
@@ -301,7 +334,7 @@ holds_published Why text files page old new (inr (inl it)) = inr (inl (it.0, it.
 holds_published Why text files page old new (inr (inr it)) = inr (inr it)
 
 -- a failure of the folder can end an order to publish
-folder_ends : (why : FolderFault) → EndsPublishing (folder_failure why)
+pub folder_ends : (why : FolderFault) → EndsPublishing (folder_failure why)
 folder_ends folder.Taken = tt
 folder_ends folder.Memory = inl refl
 folder_ends folder.Unwritten = tt
@@ -331,12 +364,13 @@ published_so e reply files page old new can (inr (inl it)) = inr (inl (it.0, it.
 published_so e reply files page old new can (inr (inr it)) = inr (inr it)
 
 -- what was read at a state was published
-pub published_at : (title : Text) (with_ballots : Bool) (s : OfficeState) (found : PublishedEntry) (count : ℕ) (page : Page) (old new : Option FolderEntry)
-    → found ≡ election_published title with_ballots s → count ≡ length found.wards → can_be_published (election_published title with_ballots s) ≡ true
-    → IsPublishedAs (IsUnmade found) (replied (published_text count (length (published found)))) (published found) page old new
+pub published_at : (title : Text) (with_ballots : Bool) (s : OfficeState) (found : PublishedEntry) (page : Page) (old new : Option FolderEntry)
+    → found ≡ election_published title with_ballots s → can_be_published (election_published title with_ballots s) ≡ true
+    → IsPublishedAs (IsUnmade found) (replied (published_text (length found.wards) (length (published found)))) (published found) page old new
     → IsPublishedAs StopsReading (published_page title with_ballots s) (published_of title with_ballots s) page old new
-published_at title with_ballots s found count page old new same counted can it =
-    let P : ℕ → PublishedEntry → Type 0 = λ n e. IsPublishedAs (IsUnmade e) (replied (published_text n (length (published e)))) (published e) page old new in
-    let all : count ≡ length (sealed_wards s) =
-    counted ∙ (ap (λ (e : PublishedEntry). length e.wards) same ∙ length-map (sealed_wards s) (λ (w : WardEntry). texts_of title with_ballots (election_of s w))) in
-    published_so (election_published title with_ballots s) _ _ page old new can (subst (λ n. P n (election_published title with_ballots s)) all (subst (P count) same it))
+published_at title with_ballots s found page old new same can it =
+    let all : PublishedEntry = election_published title with_ballots s in
+    let P : PublishedEntry → Type 0 = λ e. IsPublishedAs (IsUnmade e) (replied (published_text (length e.wards) (length (published e)))) (published e) page old new in
+    let Q : ℕ → Type 0 = λ n. IsPublishedAs (IsUnmade all) (replied (published_text n (length (published all)))) (published all) page old new in
+    let count : length all.wards ≡ length (sealed_wards s) = length-map (sealed_wards s) (λ (w : WardEntry). texts_of title with_ballots (election_of s w)) in
+    published_so all (published_page title with_ballots s) (published all) page old new can (subst Q count (subst P same it))

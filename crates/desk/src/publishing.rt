@@ -1,6 +1,6 @@
 //! Publishing the results of the office: the files of a folder, made from the texts of all sealed wards at one state.
 
-ghost use Rattle.std.specs.Prelude.{◌≡◌, ◌++◌, ◌-◌, ◌^◌, ◌<◌, true, IfErr, IfOk, OnOk, length, map, option_map, string_bytes, vec_len};
+ghost use Rattle.std.specs.Prelude.{◌≡◌, [], ◌∷◌, ◌++◌, ◌-◌, ◌^◌, ◌<◌, true, IfErr, IfOk, OnOk, length, map, option_map, string_bytes};
 ghost use Rattle.std.specs.Option.{option_copied};
 ghost use Rattle.sqlite.specs.Held.{state};
 ghost use Rattle.register.specs.Elections.{election_of, is_counted, is_declared};
@@ -34,7 +34,7 @@ use streams::Sink;
 /// The reason why nothing was published in a folder.
 #[derive(Clone, Copy)]
 pub enum FolderFault {
-    /// Something has the name of the folder, or of a file in it, already.
+    /// Something has the name of the folder already.
     Taken,
     /// An allocation failed.
     Memory,
@@ -187,6 +187,17 @@ fn is_published_in(phase: Phase) -> bool
     matches!(phase, Phase::Sealed | Phase::Declared)
 }
 
+/// Appends the texts of a ward.
+fn keep_ward(wards: &mut Vec<SealedWard>, ward: SealedWard) -> Result<(), Fault>
+    ensures ok { OnOk result (map sealed_entry wards.new.items ≡ map sealed_entry wards.old.items ++ sealed_entry ward ∷ []) }
+    ensures err { IfErr result (λ fault. fault ≡ Fault.Memory) }
+{
+    match wards.push(ward) {
+        Ok(()) => Ok(()),
+        Err(_) => Err(Fault::Memory),
+    }
+}
+
 /// Reads the texts of a ward that are published, if it is sealed, and appends them.
 fn push_ward<S: Alter>(
     office: &mut Office<S>,
@@ -201,10 +212,7 @@ fn push_ward<S: Alter>(
         return Ok(());
     }
     let ward = sealed_ward(office, overview, asked)?;
-    match wards.push(ward) {
-        Ok(()) => Ok(()),
-        Err(_) => Err(Fault::Memory),
-    }
+    keep_ward(wards, ward)
 }
 
 /// Reads the texts of all sealed wards that are published, given the overviews of all wards.
@@ -363,7 +371,7 @@ fn published<F: PublicFolder>(
     folder: &mut F,
 ) -> LineOutcome
     ensures { let found_entry = election_read asked.entry.title.now found.now in let files = published found_entry in IsPublishedAs (IsUnmade found_entry)
-        (replied (published_text (vec_len found.now.wards) (length files))) files (page_of result) (F.held folder.old) (F.held folder.new) }
+        (replied (published_text (length found_entry.wards) (length files))) files (page_of result) (F.held folder.old) (F.held folder.new) }
 {
     let files = match files_of(alloc, asked, found) {
         Ok(files) => files,
@@ -402,11 +410,11 @@ fn published_open<S: Alter, F: PublicFolder>(
 ///
 /// The folder gets the page of all wards and, for each sealed ward, its page, stage sheet, table and results, its declaration if it is
 /// declared, and its ballots if the order asks for them; and the digests of all these files. All of them show the office at one and the
-/// same state: the one at which it is open. With status 0, the folder is public and contains exactly these files.
+/// same state: the one at which it is open. With status 0, exactly these files were put into the folder, which is public.
 ///
-/// If something has the name of the folder already, the failure is 109; if the folder can't be written, 110. Then it isn't public. An
-/// allocation failure, or a store that fails while the office is being read, is reported as usual. The office is only read, whatever the
-/// outcome.
+/// If something has the name of the folder already, the failure is 109; if the folder can't be written, 110. Then it isn't public. If an
+/// allocation fails, or the store while the office is being read, that is reported as usual, and nothing was done to the folder. There is
+/// no other failure. The office is only read, whatever the outcome.
 pub fn publish_open<S: Alter, F: PublicFolder, O: Sink, E: Sink>(
     alloc: Global,
     office: &mut Office<S>,

@@ -1,7 +1,6 @@
 -- Proof that `published_open` meets its contract: what is published is what was read at one state.
-use Rattle.std.proofs.Common.{inl, inr, refl, sym}
-use Rattle.std.proofs.lemmas.List.{length-map}
-use Rattle.desk.specs.Publications.{IsUnmade, election_read, sealed_entry}
+use Rattle.std.proofs.Common.{inl, inr, refl}
+use Rattle.desk.specs.Publications.{IsUnmade, election_read}
 use Rattle.desk.specs.declared.lines.Failure.TheVariants.{Office}
 use Rattle.desk.proofs.PublishLemmas.{holds_published, published_at}
 use Rattle.desk.proofs.PublishableLemmas.{publishable_at}
@@ -11,8 +10,7 @@ pub returns-in-Ok-clause-published : goal.returns-in-Ok-clause-published
 returns-in-Ok-clause-published g c clean was s at =
     let title = c.args.asked.title.now in
     let with_ballots = c.args.asked.with_ballots in
-    published_at title with_ballots s (election_read title c.in-Ok.found) _ _ _ _ (c.in-Ok.ensures.shows clean was s at) (sym (length-map c.in-Ok.found.wards.items sealed_entry))
-    (publishable_at title with_ballots s at.is) c.published.ensures
+    published_at title with_ballots s (election_read title c.in-Ok.found) _ _ _ (c.in-Ok.ensures.shows clean was s at) (publishable_at title with_ballots s at.is) c.published.ensures
 
 pub returns-in-Ok-clause-holds : goal.returns-in-Ok-clause-holds
 returns-in-Ok-clause-holds g c = holds_published (IsUnmade (election_read c.args.asked.title.now c.in-Ok.found)) _ _ _ _ _ c.published.ensures
