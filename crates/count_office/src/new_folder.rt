@@ -3,7 +3,9 @@
 //! Its files are first written to a folder next to it, which only its owner may open. Once all of them are on the disk, everyone may
 //! read them, and the folder gets its name in one step. A stop before that leaves the unfinished folder.
 
-ghost use Rattle.std.specs.Prelude.{None};
+ghost use Rattle.std.specs.Prelude.{◌≡◌, IfErr, None};
+ghost use Rattle.desk.specs.Publications.{folder_failure};
+ghost use Rattle.desk.specs.declared.publishing.FolderFault.{FolderFault};
 
 use crate::moved_note::flush_folder;
 use desk::{Failure, FolderFault, PublicFolder};
@@ -45,7 +47,9 @@ fn fault_of(error: &io::Error) -> FolderFault {
 }
 
 /// Returns the failure to print for a folder that wasn't made.
-fn failure_of(fault: FolderFault) -> Failure {
+fn failure_of(fault: FolderFault) -> Failure
+    ensures { result ≡ folder_failure fault }
+{
     match fault {
         FolderFault::Taken => Failure::CopyTaken,
         FolderFault::Memory => Failure::Office(Fault::Memory),
@@ -82,11 +86,16 @@ fn write_public(rt: &HostRuntime, path: &str, text: &str) -> io::Result<()> {
 impl<'a> NewFolder<'a> {
     /// Makes an unfinished folder next to a path where nothing exists. If something already exists there (`CopyTaken`), or the
     /// unfinished folder can't be made, such as after a stop that left one (`CopyFailed`), nothing is left behind.
-    pub fn make(rt: &'a HostRuntime, path: &str) -> Result<NewFolder<'a>, Failure> {
+    pub fn make(rt: &'a HostRuntime, path: &str) -> Result<NewFolder<'a>, Failure>
+        ensures { IfErr result (λ failure. (fault : FolderFault) × (failure ≡ folder_failure fault)) }
+    {
         let path = path.trim_end_matches('/');
-        match has_none(rt, path) {
-            Ok(()) => NewFolder::begin(rt, path).map_err(|error| failure_of(fault_of(&error))),
-            Err(fault) => Err(failure_of(fault)),
+        if let Err(fault) = has_none(rt, path) {
+            return Err(failure_of(fault));
+        }
+        match NewFolder::begin(rt, path) {
+            Ok(folder) => Ok(folder),
+            Err(error) => Err(failure_of(fault_of(&error))),
         }
     }
 
@@ -136,31 +145,29 @@ impl<'a> NewFolder<'a> {
         flush_folder(self.rt, named.as_str())
     }
 
-    /// Removes a file of the folder.
+    /// Removes a file of the unfinished folder.
     fn remove(&self, name: &str) {
-        let folder = self.place();
-        if let Ok(path) = format!(in self.rt.alloc(); "{folder}/{name}") {
+        if let Ok(path) = format!(in self.rt.alloc(); "{}/{name}", self.unfinished) {
             let _ = fs::remove_file(self.rt, path.as_str());
         }
     }
 
-    /// Returns where the folder is.
-    fn place(&self) -> &str {
-        if self.is_named {
-            self.path.as_str()
-        } else {
-            self.unfinished.as_str()
-        }
+    /// Takes its name from the folder again, if it has it. Returns whether the folder is unfinished then.
+    fn take_name(&self) -> bool {
+        !self.is_named
+            || fs::rename(self.rt, self.path.as_str(), self.unfinished.as_str()).is_ok()
     }
 
-    /// Removes the folder and the files that were put into it, unless it was published.
+    /// Removes the folder and the files that were put into it, unless it was published. If it has its name already, it loses that
+    /// first, so that nobody sees a part of it there; if it can't lose it, it stays whole.
     pub fn close(self) {
-        if !self.is_public {
-            for name in &self.names {
-                self.remove(name.as_str());
-            }
-            let _ = fs::remove_dir(self.rt, self.place());
+        if self.is_public || !self.take_name() {
+            return;
         }
+        for name in &self.names {
+            self.remove(name.as_str());
+        }
+        let _ = fs::remove_dir(self.rt, self.unfinished.as_str());
     }
 }
 

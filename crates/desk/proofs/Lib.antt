@@ -38,3 +38,4 @@ mod ScriptContinues
 mod RequestLemmas
 mod RequestsRead
 pub mod PublishLemmas
+pub mod PublishableLemmas

@@ -1,6 +1,6 @@
 //! Publishing the results of the office: the files of a folder, made from the texts of all sealed wards at one state.
 
-ghost use Rattle.std.specs.Prelude.{◌≡◌, ◌++◌, ◌-◌, ◌^◌, ◌<◌, true, IfErr, IfOk, OnErr, OnOk, length, map, option_map, string_bytes, vec_len};
+ghost use Rattle.std.specs.Prelude.{◌≡◌, [], ◌∷◌, ◌++◌, ◌-◌, ◌^◌, ◌<◌, true, IfErr, IfOk, OnOk, length, map, option_map, string_bytes};
 ghost use Rattle.std.specs.Option.{option_copied};
 ghost use Rattle.sqlite.specs.Held.{state};
 ghost use Rattle.register.specs.Elections.{election_of, is_counted, is_declared};
@@ -13,9 +13,11 @@ ghost use Rattle.office.specs.Sheets.{text_answer};
 ghost use Rattle.publication.specs.Election.{ward_entry as text_entry};
 ghost use Rattle.publication.specs.Files.{file_entry};
 ghost use Rattle.publication.specs.Folder.{published};
-ghost use Rattle.desk.specs.Pages.{Tells, outputs_of, page_of, replied};
-ghost use Rattle.desk.specs.Publications.{HoldsPublished, IsFailure, IsPublished, IsPublishedAs, IsTextIf, Publishes, PutsFiles, Reads, StaysUnpublished};
-ghost use Rattle.desk.specs.Publications.{election_published, election_read, published_of, published_text, sealed_entry, texts_of, ward_of_overview, ward_published, wards_published};
+ghost use Rattle.desk.specs.Pages.{Tells, failed, outputs_of, page_of, replied};
+ghost use Rattle.desk.specs.Publications.{FailsFolder, HoldsPublished, IsPublished, IsPublishedAs, IsTextIf, IsUnmade, Publishes, PutsFiles, Reads};
+ghost use Rattle.desk.specs.Publications.{election_published, election_read, folder_failure, published_of, published_text, sealed_entry, texts_of, unmade_failure};
+ghost use Rattle.desk.specs.Publications.{ward_of_overview, ward_published, wards_published};
+ghost use Rattle.desk.specs.declared.lines.Failure.{Failure};
 
 use crate::lines::{LineOutcome, tell};
 use crate::orders::PublishOrder;
@@ -32,7 +34,7 @@ use streams::Sink;
 /// The reason why nothing was published in a folder.
 #[derive(Clone, Copy)]
 pub enum FolderFault {
-    /// Something has the name of the folder, or of a file in it, already.
+    /// Something has the name of the folder already.
     Taken,
     /// An allocation failed.
     Memory,
@@ -42,26 +44,26 @@ pub enum FolderFault {
 
 /// A folder into which files are put, and which is then made public, whole or not at all.
 pub trait PublicFolder {
-    ghost use Rattle.std.specs.Prelude.{OnErr, OnOk, Option};
-    ghost use Rattle.desk.specs.Publications.{FolderEntry, GoesPublic, PutsFile, StaysUnpublished};
+    ghost use Rattle.std.specs.Prelude.{IfErr, OnOk, Option};
+    ghost use Rattle.desk.specs.Publications.{FailsFolder, FolderEntry, GoesPublic, PutsFile};
 
-    /// The files that were put into the folder, and whether it is public, if that is known.
+    /// The files that were put into the folder, whether it is public, and the fault of a call that failed, if that is known.
     ghost held: { Self → Option FolderEntry };
 
-    /// Puts a file with a name and a text into the folder. After a fault, the file may be in it or not, and the folder isn't public.
+    /// Puts a file with a name and a text into the folder, which isn't public. After a fault, the file may be in it or not.
     fn put(&mut self, name: &str, text: &str) -> Result<(), FolderFault>
         ensures ok { OnOk result (PutsFile (held self.old) (held self.new) name.now text.now) }
-        ensures err { OnErr result (StaysUnpublished (held self.old) (held self.new)) };
+        ensures err { IfErr result (FailsFolder (held self.old) (held self.new)) };
 
     /// Makes the folder public, with the files that were put into it and no others. After a fault, it isn't public.
     fn publish(&mut self) -> Result<(), FolderFault>
         ensures ok { OnOk result (GoesPublic (held self.old) (held self.new)) }
-        ensures err { OnErr result (StaysUnpublished (held self.old) (held self.new)) };
+        ensures err { IfErr result (FailsFolder (held self.old) (held self.new)) };
 }
 
 /// Returns the outcome for a folder in which nothing was published.
 fn unpublished(fault: FolderFault) -> LineOutcome
-    ensures { IsFailure (page_of result) }
+    ensures { page_of result ≡ failed (folder_failure fault) }
 {
     match fault {
         FolderFault::Taken => LineOutcome::Uncopied(CopyFault::Taken),
@@ -73,7 +75,7 @@ fn unpublished(fault: FolderFault) -> LineOutcome
 /// Puts files into a folder, in order.
 fn put_files<F: PublicFolder>(folder: &mut F, files: &[PublishedFile]) -> Result<(), FolderFault>
     ensures ok { OnOk result (PutsFiles (F.held folder.old) (F.held folder.new) (map file_entry files.now)) }
-    ensures err { OnErr result (StaysUnpublished (F.held folder.old) (F.held folder.new)) }
+    ensures err { IfErr result (FailsFolder (F.held folder.old) (F.held folder.new)) }
 {
     for file in files {
         folder.put(file.name.as_str(), file.text.as_str())?;
@@ -87,7 +89,7 @@ fn publish_files<F: PublicFolder>(
     files: &[PublishedFile],
 ) -> Result<(), FolderFault>
     ensures ok { OnOk result (Publishes (F.held folder.old) (F.held folder.new) (map file_entry files.now)) }
-    ensures err { OnErr result (StaysUnpublished (F.held folder.old) (F.held folder.new)) }
+    ensures err { IfErr result (FailsFolder (F.held folder.old) (F.held folder.new)) }
 {
     put_files(folder, files)?;
     folder.publish()
@@ -185,6 +187,17 @@ fn is_published_in(phase: Phase) -> bool
     matches!(phase, Phase::Sealed | Phase::Declared)
 }
 
+/// Appends the texts of a ward.
+fn keep_ward(wards: &mut Vec<SealedWard>, ward: SealedWard) -> Result<(), Fault>
+    ensures ok { OnOk result (map sealed_entry wards.new.items ≡ map sealed_entry wards.old.items ++ sealed_entry ward ∷ []) }
+    ensures err { IfErr result (λ fault. fault ≡ Fault.Memory) }
+{
+    match wards.push(ward) {
+        Ok(()) => Ok(()),
+        Err(_) => Err(Fault::Memory),
+    }
+}
+
 /// Reads the texts of a ward that are published, if it is sealed, and appends them.
 fn push_ward<S: Alter>(
     office: &mut Office<S>,
@@ -199,10 +212,7 @@ fn push_ward<S: Alter>(
         return Ok(());
     }
     let ward = sealed_ward(office, overview, asked)?;
-    match wards.push(ward) {
-        Ok(()) => Ok(()),
-        Err(_) => Err(Fault::Memory),
-    }
+    keep_ward(wards, ward)
 }
 
 /// Reads the texts of all sealed wards that are published, given the overviews of all wards.
@@ -310,7 +320,7 @@ fn texts_of_wards<'a>(
 /// Returns the outcome if the files can't be made: out of memory, or that the folder isn't written. The pages of an office end as pages
 /// do, and its wards are in order.
 fn unmade(fault: PublishFault) -> LineOutcome
-    ensures { IsFailure (page_of result) }
+    ensures { page_of result ≡ failed (unmade_failure fault) }
 {
     match fault {
         PublishFault::Memory => LineOutcome::Failed(Fault::Memory),
@@ -326,7 +336,7 @@ fn files_of(
     found: &ReadElection,
 ) -> Result<Vec<PublishedFile>, LineOutcome>
     ensures ok { IfOk result (λ files. map file_entry files.items ≡ published (election_read asked.entry.title.now found.now)) }
-    ensures err { IfErr result (λ outcome. IsFailure (page_of outcome)) }
+    ensures err { IfErr result (λ outcome. (failure : Failure) × (page_of outcome ≡ failed failure) × IsUnmade (election_read asked.entry.title.now found.now) failure) }
 {
     let texts = match texts_of_wards(alloc, &found.wards) {
         Ok(texts) => texts,
@@ -360,8 +370,8 @@ fn published<F: PublicFolder>(
     found: &ReadElection,
     folder: &mut F,
 ) -> LineOutcome
-    ensures { let files = published (election_read asked.entry.title.now found.now) in IsPublishedAs (replied (published_text (vec_len found.now.wards) (length files)))
-        files (page_of result) (F.held folder.old) (F.held folder.new) }
+    ensures { let found_entry = election_read asked.entry.title.now found.now in let files = published found_entry in IsPublishedAs (IsUnmade found_entry)
+        (replied (published_text (length found_entry.wards) (length files))) files (page_of result) (F.held folder.old) (F.held folder.new) }
 {
     let files = match files_of(alloc, asked, found) {
         Ok(files) => files,
@@ -400,11 +410,11 @@ fn published_open<S: Alter, F: PublicFolder>(
 ///
 /// The folder gets the page of all wards and, for each sealed ward, its page, stage sheet, table and results, its declaration if it is
 /// declared, and its ballots if the order asks for them; and the digests of all these files. All of them show the office at one and the
-/// same state: the one at which it is open. With status 0, the folder is public and contains exactly these files.
+/// same state: the one at which it is open. With status 0, exactly these files were put into the folder, which is public.
 ///
-/// If something has the name of the folder already, the failure is 109; if the folder can't be written, 110. Then it isn't public. An
-/// allocation failure, or a store that fails while the office is being read, is reported as usual. The office is only read, whatever the
-/// outcome.
+/// If something has the name of the folder already, the failure is 109; if the folder can't be written, 110. Then it isn't public. If an
+/// allocation fails, or the store while the office is being read, that is reported as usual, and nothing was done to the folder. There is
+/// no other failure. The office is only read, whatever the outcome.
 pub fn publish_open<S: Alter, F: PublicFolder, O: Sink, E: Sink>(
     alloc: Global,
     office: &mut Office<S>,

@@ -3,6 +3,7 @@ use Rattle.std.specs.Prelude.{◌==◌, Bool, false, not, [], ◌∷◌, None, O
 use Rattle.std.specs.List.{list_any}
 use Rattle.std.specs.Str.{is_utf8}
 use Rattle.clap.specs.Words.{Text}
+use Rattle.desk.specs.declared.orders.PublishOrder.{PublishOrder}
 use Rattle.server.specs.declared.order_response.AttachedFiles.{AttachedFiles}
 use Rattle.server.specs.declared.served_file.Destination.{Destination}
 use Rattle.server.specs.declared.served_order.ServedOrder.{ServedOrder}
@@ -36,9 +37,9 @@ folder_typed_in attached = option_map (λ folder. folder.now) attached.folder
 abbrev pub EndsAt : (Text → Text → ℕ → Type 0) → Type 0 → Option DestinationEntry → ℕ → Type 0
 EndsAt ended failed to status = IfSome to (λ at. ended at.folder at.path status) × IfNone to failed
 
--- the same of what an order asks for; only copies, new offices and published results make a file or a folder
-abbrev pub EndsWhereAsked : (Text → Text → ℕ → Type 0) → Type 0 → Option Text → ServedOrder → ℕ → Type 0
-EndsWhereAsked ended failed folder (asked.Copy path) status = EndsAt ended failed (destination_at folder path.now) status
-EndsWhereAsked ended failed folder (asked.Mend mending) status = EndsAt ended failed (destination_at folder mending.path.now) status
-EndsWhereAsked ended failed folder (asked.Publish publishing) status = EndsAt ended failed (destination_at folder publishing.path.now) status
-EndsWhereAsked ended failed folder other status = ⊤
+-- the same of what an order asks for; only copies, new offices and published results make a file or a folder, and results are published as the order asks
+abbrev pub EndsWhereAsked : (Text → Text → ℕ → Type 0) → (PublishOrder → Text → Text → ℕ → Type 0) → Type 0 → Option Text → ServedOrder → ℕ → Type 0
+EndsWhereAsked ended published failed folder (asked.Copy path) status = EndsAt ended failed (destination_at folder path.now) status
+EndsWhereAsked ended published failed folder (asked.Mend mending) status = EndsAt ended failed (destination_at folder mending.path.now) status
+EndsWhereAsked ended published failed folder (asked.Publish publishing) status = EndsAt (published publishing) failed (destination_at folder publishing.path.now) status
+EndsWhereAsked ended published failed folder other status = ⊤

@@ -191,7 +191,7 @@ fn publish_for_order<A: ServedFile, S: Alter, O: Sink, E: Sink>(
     requires err { E.failed err.old < 2 ^ 64 - 1 }
     ensures told { let outputs = outputs_of O.taken O.failed E.taken E.failed in Tells (outputs out.old err.old) (outputs out.new err.new) result
         (λ _ page. WhenOpenAt (state S.Store) office.old office.new (λ s. IsPublishTold s publishing.entry page × IsReadAt s office.new.closed (state S.Store office.new.held))) }
-    ensures somewhere { IfSome (destination_at (folder_typed_in order.now.attached) publishing.entry.path.now) (λ to. A.ended order.now.served_file.now to.folder to.path result) }
+    ensures somewhere { IfSome (destination_at (folder_typed_in order.now.attached) publishing.entry.path.now) (λ to. A.published order.now.served_file.now publishing.entry to.folder to.path result) }
     ensures nowhere { IfNone (destination_at (folder_typed_in order.now.attached) publishing.entry.path.now)
         (IsErrorTold E.taken E.failed err.old err.new (failed Failure.CopyFailed).err 3 result) }
     ensures clean { HasCleanDisk (state S.Store office.new.held) → HasCleanDisk (state S.Store office.old.held) }
@@ -253,7 +253,7 @@ fn do_open<A: ServedFile, S: Alter, R: Recorder, O: Sink, E: Sink>(
         (message_part_entries order.now.attached.files.now)) s order.now.asked.now cut page)) }
     ensures recorded { order.now.asked.now ≡ ServedOrder.Record → (let outputs = outputs_of O.taken O.failed E.taken E.failed in
         Tells (outputs out.old err.old) (outputs out.new err.new) result (λ _ page. IsRecordTold (A.described order.now.served_file.now) (R.failed recorder.old) page)) }
-    ensures ended { EndsWhereAsked (A.ended order.now.served_file.now) (IsErrorTold E.taken E.failed err.old err.new (failed Failure.CopyFailed).err 3 result)
+    ensures ended { EndsWhereAsked (A.ended order.now.served_file.now) (A.published order.now.served_file.now) (IsErrorTold E.taken E.failed err.old err.new (failed Failure.CopyFailed).err 3 result)
         (folder_typed_in order.now.attached) order.now.asked.now result }
     ensures same { R.records recorder.new ≡ R.records recorder.old }
     ensures fails { R.failed recorder.old ≡ false → R.failed recorder.new ≡ true → R.records recorder.old ≡ true }
@@ -303,7 +303,7 @@ pub fn do_asked<A: ServedFile, S: Alter, R: Recorder, O: Sink, E: Sink>(
     ensures recorded { office.old.closed ≡ false → order.now.asked.now ≡ ServedOrder.Record → (let outputs = outputs_of O.taken O.failed E.taken E.failed in
         Tells (outputs out.old err.old) (outputs out.new err.new) result (λ _ page. IsRecordTold (A.described order.now.served_file.now) (R.failed recorder.old) page)) }
     ensures ended { office.old.closed ≡ false
-        → EndsWhereAsked (A.ended order.now.served_file.now) (IsErrorTold E.taken E.failed err.old err.new (failed Failure.CopyFailed).err 3 result)
+        → EndsWhereAsked (A.ended order.now.served_file.now) (A.published order.now.served_file.now) (IsErrorTold E.taken E.failed err.old err.new (failed Failure.CopyFailed).err 3 result)
         (folder_typed_in order.now.attached) order.now.asked.now result }
     ensures same { R.records recorder.new ≡ R.records recorder.old }
     ensures fails { R.failed recorder.old ≡ false → R.failed recorder.new ≡ true → R.records recorder.old ≡ true }

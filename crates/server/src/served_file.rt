@@ -10,6 +10,7 @@ ghost use Rattle.desk.specs.Mends.{IsMendPage};
 ghost use Rattle.desk.specs.Pages.{Tells, outputs_of};
 ghost use Rattle.clap.specs.Words.{Text};
 ghost use Rattle.desk.specs.Publications.{IsPublishTold};
+ghost use Rattle.desk.specs.declared.orders.PublishOrder.{PublishOrder};
 ghost use Rattle.server.specs.ServedOrders.{IsCopyTold, IsSecondIn};
 
 use desk::{Folder, MendOrder, PublishOrder};
@@ -37,8 +38,12 @@ pub trait ServedFile {
     /// Nothing is known about a real file on this machine.
     ghost moved: { Self → Type 0 };
 
-    /// That an order which makes a file or a folder ended with a status, given the folder in which that is, its path, and that status.
+    /// That an order which makes a file ended with a status, given the file's folder, its path, and that status.
     ghost ended: { Self → List ℕ → List ℕ → ℕ → Type 0 };
+
+    /// That an order to publish, with this title and with or without ballots, ended with a status, given the folder in which that of the
+    /// results is, its path, and that status.
+    ghost published: { Self → PublishOrder → List ℕ → List ℕ → ℕ → Type 0 };
 
     /// What a text says of where the second record of the office is. Nothing is known about a real file on this machine.
     ghost described: { Self → Text → Type 0 };
@@ -115,7 +120,7 @@ pub trait ServedFile {
         ensures told { let outputs = outputs_of O.taken O.failed E.taken E.failed in Tells (outputs out.old err.old) (outputs out.new err.new) result
             (λ _ page. WhenOpenAt (state S.Store) office.old office.new (λ s. IsPublishTold s asked.entry page)) }
         ensures stays { WhenOpenAt (state S.Store) office.old office.new (λ s. IsReadAt s office.new.closed (state S.Store office.new.held)) }
-        ensures ended { ended self.now to.entry.folder.now to.entry.path.now result }
+        ensures ended { published self.now asked.entry to.entry.folder.now to.entry.path.now result }
         ensures clean { HasCleanDisk (state S.Store office.new.held) → HasCleanDisk (state S.Store office.old.held) };
 
     /// Compares the office with a second record of it, in a file of a folder, and prints the outcome.

@@ -304,6 +304,8 @@ impl ServedFile for Unaided {
 
     ghost ended = { λ _ _ _ _. ⊤ };
 
+    ghost published = { λ _ _ _ _ _. ⊤ };
+
     ghost described = { λ _ _. ⊥ };
 
     fn is_whole(&self) -> bool {

@@ -37,4 +37,4 @@ returns-in-Err-clause-told g c =
     mend_failed g.O.Sink.taken g.O.Sink.failed g.E.Sink.taken g.E.Sink.failed
     (λ page. HasCleanDisk (state g.S.Store c.in-Err.conn) → (db : Database) → RestsAt db (state g.S.Store c.args.conn) → (s : OfficeState) → IsLeftAt s db → IsPublishTold s c.args.asked page)
     (Office c.in-Err.fault) c.args.out.now c.args.err.now c.tell_failure.new.err c.tell_failure.result
-    (λ clean db rests s left. inr (Office c.in-Err.fault, refl)) c.tell_failure.ensures
+    (λ clean db rests s left. inr (Office c.in-Err.fault, refl, c.in-Err.ensures.refuses clean db rests s left)) c.tell_failure.ensures

@@ -12,9 +12,10 @@ pub loop-overview-preserved : goal.loop-overview-preserved
 loop-overview-preserved g c =
     reads_as (reads_both c.loop-overview.invariant c.in_ok-push_ward.ensures)
     (λ s is told. λ same.
-    let there = overview_there s is c.loop-overview.overviews same c.loop-overview.overview-index c.overview-item.result c.loop-overview-test.true c.overview-item.is in
-    published_more (ward_published c.args.asked.title.now c.args.asked.with_ballots s) ward_of_overview c.loop-overview.overviews c.loop-overview.overview-index c.overview-item.result
-    (map sealed_entry c.loop-overview.wards.items) _ _ c.loop-overview-test.true c.overview-item.is (told.1 is there) (told.0 same))
+    let there = overview_there s is c.args.overviews.now same c.loop-overview.overview-index c.overview-item.result c.loop-overview-test.true c.overview-item.is in
+    published_more (ward_published c.args.asked.title.now c.args.asked.with_ballots s) ward_of_overview c.args.overviews.now c.loop-overview.overview-index c.overview-item.result
+    (map sealed_entry c.loop-overview.wards.items) (map sealed_entry c.push_ward.new.wards.items)
+    (flat_map (ward_published c.args.asked.title.now c.args.asked.with_ballots s) (map ward_of_overview c.args.overviews.now)) c.loop-overview-test.true c.overview-item.is (told.1 is there) (told.0 same))
 
 pub returns-in_err-push_ward : goal.returns-in_err-push_ward
 returns-in_err-push_ward g c = reads_cut c.from_residual.ensures.1 c.loop-overview.invariant c.in_err-push_ward.ensures
@@ -23,6 +24,6 @@ pub returns : goal.returns
 returns g c =
     reads_as c.loop-overview.invariant
     (λ s is told. λ same.
-    published_all (ward_published c.args.asked.title.now c.args.asked.with_ballots s) ward_of_overview c.loop-overview.overviews c.loop-overview.overview-index _ _
+    published_all (ward_published c.args.asked.title.now c.args.asked.with_ballots s) ward_of_overview c.args.overviews.now c.loop-overview.overview-index _ _
     (omega (arith, c.loop-overview-test.false)) (told same)
     ∙ ap (flat_map (ward_published c.args.asked.title.now c.args.asked.with_ballots s)) same ∙ published_wards c.args.asked.title.now c.args.asked.with_ballots s)

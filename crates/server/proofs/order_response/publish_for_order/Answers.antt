@@ -13,5 +13,10 @@ returns-in-None-clause-told g c =
       page = failed CopyFailed;
       cut = shows.0;
       shown = shows.1;
-      is = λ clean is_open s at. (inr (CopyFailed, refl), inl (record { is_open = is_open; at = at }));
+      is = λ clean is_open s at. (inr (CopyFailed, refl, tt), inl (record { is_open = is_open; at = at }));
     }
+
+pub returns-in-Some-clause-told : goal.returns-in-Some-clause-told
+returns-in-Some-clause-told g c =
+    let told = c.publish.ensures.told in
+    record { page = told.page; cut = told.cut; shown = told.shown; is = λ clean is_open s at. (told.is clean is_open s at, c.publish.ensures.stays clean is_open s at) }

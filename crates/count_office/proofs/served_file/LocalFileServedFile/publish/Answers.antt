@@ -12,7 +12,7 @@ pub returns-in-Err-clause-told : goal.returns-in-Err-clause-told
 returns-in-Err-clause-told g c =
     mend_failed g.O.Sink.taken g.O.Sink.failed g.E.Sink.taken g.E.Sink.failed
     (λ page. WhenOpenAt (state g.S.Store) c.args.office.now c.args.office.now (λ s. IsPublishTold s c.args.asked page)) (Office Memory) c.args.out.now c.args.err.now
-    c.tell_failure.new.err c.tell_failure.result (λ clean was s at. inr (Office Memory, refl)) c.tell_failure.ensures
+    c.tell_failure.new.err c.tell_failure.result (λ clean was s at. inr (Office Memory, refl, inl refl)) c.tell_failure.ensures
 
 pub returns-in-Err-clause-stays : goal.returns-in-Err-clause-stays
 returns-in-Err-clause-stays g c clean was s at = inl (record { is_open = was; at = at })
