@@ -1,5 +1,5 @@
 -- The line of a request, parsed again.
-use Rattle.std.proofs.Common.{◌≡◌, ◌∙◌, ◌&&◌, ◌++◌, ℕ, Bool, true, false, true≢false, not, List, [], ◌∷◌, get_or, length, refl, sym, ap, ap₂, subst, arith, eq-eqb, eqb→eq}
+use Rattle.std.proofs.Common.{◌≡◌, ◌∙◌, ◌&&◌, ◌++◌, ℕ, Bool, true, false, true≢false, not, List, [], ◌∷◌, get_or, length, refl, sym, ap, ap₂, subst, arith, eq-eqb, eqb-true}
 use Rattle.std.specs.Prelude.{◌==◌, if◌then◌else◌}
 use Rattle.std.specs.List.{list_any}
 use Rattle.std.proofs.lemmas.Bool.{and_parts}
@@ -33,11 +33,11 @@ sends_one text request requests said whole same one is script is_whole is_same s
 -- a text from which one request was parsed, and which isn't one whole line or has another request, isn't the line of the given one
 pub sends_other : (text : Text) (request : Request) (requests : List Request) (said : Request) (whole same : Bool) → length requests ≡ 1 → said ≡ get_or requests 0 said
     → IsScriptOf text requests → (IsWholeLine text → whole ≡ true) → (sent_as said ≡ sent_as request → same ≡ true) → (whole && same) ≡ false → IsLineOf text request → ⊥
-sends_other text request requests said whole same one is script is_whole is_same no line =
+sends_other text request requests said whole same one is script is_whole is_same none line =
     let alone : IsScriptOf text (said ∷ []) = subst (IsScriptOf text) (only_one requests said one is) script in
     let yes : same ≡ true = is_same (same_request text said line.said alone line.script ∙ line.same) in
     let both : (whole && same) ≡ true = ap₂ (λ (a b : Bool). a && b) (is_whole line.whole) yes in
-    true≢false (sym both ∙ no)
+    true≢false (sym both ∙ none)
 
 -- nor is a text from which another number of requests was parsed
 pub sends_many : (text : Text) (request : Request) (requests : List Request) → IsScriptOf text requests → (length requests ≡ 1 → ⊥) → IsLineOf text request → ⊥
@@ -69,17 +69,16 @@ same_end (a ∷ xs) (b ∷ ys) x y same =
     (ap₂ (λ (z : ℕ) (zs : Text). z ∷ zs) first it.0, it.1)
 
 -- the tests of a whole line
-pub passes_as_whole : (text words : Text) (last size full : ℕ) → text ≡ words ++ last ∷ [] → size ≡ length (behind_byte_order_mark text) → full ≡ length text
-    → ((last == 10) && ((size == full) && not (list_any (λ byte. byte == 10) words))) ≡ true → IsWholeLine text
-passes_as_whole text words last size full is short long sure =
-    let parts = and_parts (last == 10) ((size == full) && not (list_any (λ byte. byte == 10) words)) sure in
-    let others = and_parts (size == full) (not (list_any (λ byte. byte == 10) words)) parts.1 in
-    let ends : last ≡ 10 = eqb→eq last 10 parts.0 in
+pub passes_as_whole : (text words : Text) (last size full : ℕ) (broken : Bool) → text ≡ words ++ last ∷ [] → size ≡ length (behind_byte_order_mark text) → full ≡ length text
+    → broken ≡ list_any (λ byte. byte == 10) words → ((last == 10) && ((size == full) && not broken)) ≡ true → IsWholeLine text
+passes_as_whole text words last size full broken is short long tested sure =
+    let parts = and_parts (last == 10) ((size == full) && not broken) sure in
+    let others = and_parts (size == full) (not broken) parts.1 in
     let even : size ≡ full = eqb-true size full others.0 in
     record {
       words = words;
-      ends = is ∙ ap (λ (n : ℕ). words ++ n ∷ []) ends;
-      one = none_of (list_any (λ byte. byte == 10) words) others.1;
+      ends = is ∙ ap (λ (n : ℕ). words ++ n ∷ []) (eqb-true last 10 parts.0);
+      one = sym tested ∙ none_of broken others.1;
       unmarked = unmarked_by_length text (sym short ∙ (even ∙ long));
     }
   where
@@ -88,12 +87,12 @@ passes_as_whole text words last size full is short long sure =
     none_of false fine = refl
 
 -- a whole line passes them
-pub whole_passes : (text words : Text) (last size full : ℕ) → text ≡ words ++ last ∷ [] → size ≡ length (behind_byte_order_mark text) → full ≡ length text → IsWholeLine text
-    → ((last == 10) && ((size == full) && not (list_any (λ byte. byte == 10) words))) ≡ true
-whole_passes text words last size full is short long line =
+pub whole_passes : (text words : Text) (last size full : ℕ) (broken : Bool) → text ≡ words ++ last ∷ [] → size ≡ length (behind_byte_order_mark text) → full ≡ length text
+    → broken ≡ list_any (λ byte. byte == 10) words → IsWholeLine text → ((last == 10) && ((size == full) && not broken)) ≡ true
+whole_passes text words last size full broken is short long tested line =
     let parts = same_end words line.words last 10 (sym is ∙ line.ends) in
     let even : size ≡ full = short ∙ (ap length line.unmarked ∙ sym long) in
-    let one : list_any (λ byte. byte == 10) words ≡ false = ap (list_any (λ byte. byte == 10)) parts.0 ∙ line.one in
+    let one : broken ≡ false = tested ∙ (ap (list_any (λ byte. byte == 10)) parts.0 ∙ line.one) in
     ap₂ (λ (a b : Bool). a && b) (eq-eqb last 10 parts.1) (ap₂ (λ (a b : Bool). a && b) (eq-eqb size full even) (ap not one))
 
 -- an empty text isn't a whole line

@@ -1,6 +1,7 @@
 -- Proof that `line_of` meets its contract.
-use Rattle.std.proofs.Common.{◌∙◌, ap, subst, sym}
-use Rattle.desk.specs.RequestLines.{IsLineOf}
+use Rattle.std.proofs.Common.{◌∙◌, ◌++◌, ap, subst, sym}
+use Rattle.desk.specs.Orders.{sent_as}
+use Rattle.desk.specs.RequestLines.{IsLineOf, line_text}
 use Rattle.desk.proofs.request_lines.line_of.Goals as goal
 
 -- the line was parsed again, and sends the request
@@ -9,4 +10,7 @@ returns-then-branch-clause-says c = subst (λ text. IsLineOf text c.args.request
 
 -- or it doesn't
 pub returns-else-branch-clause-none : goal.returns-else-branch-clause-none
-returns-else-branch-clause-none c = λ line. c.in_ok-is_line_of.ensures.other c.if-branch.false (subst (λ text. IsLineOf text c.args.request.now) (sym (c.as_str.ensures.value ∙ c.in_ok-put_request.ensures)) line)
+returns-else-branch-clause-none c line =
+    let written = line_text (sent_as c.args.request.now) in
+    let same = c.as_str.ensures.value ∙ (c.in_ok-put_request.ensures ∙ ap (λ front. front ++ written) c.new-line.ensures.bytes) in
+    c.in_ok-is_line_of.ensures.other c.if-branch.false (subst (λ text. IsLineOf text c.args.request.now) (sym same) line)

@@ -8,11 +8,11 @@ pub returns-in-Ok-clause-recorded : goal.returns-in-Ok-clause-recorded
 returns-in-Ok-clause-recorded g c =
     let kept = g.W.DurableSink.kept in
     records_all (kept c.args.self.now.file) (kept c.put_durably.new.file) (string_bytes c.in-Ok-Some.text) c.args.request.now
-    (rw c.in-Ok-Some.field-0-is at c.in-Ok-Some.ensures) (rw c.as_bytes.ensures.value at c.in-Ok.ensures.all)
+    (rw c.in-Ok-Some.field-0-is at c.in-Ok-Some.ensures.some) (rw c.as_bytes.ensures.value at c.in-Ok.ensures.all)
 
 -- a beginning of it was appended
 pub returns-clause-recorded : goal.returns-clause-recorded
 returns-clause-recorded g c =
     let kept = g.W.DurableSink.kept in
     records_some (kept c.args.self.now.file) (kept c.put_durably.new.file) (string_bytes c.in-Ok-Some.text) c.args.request.now
-    (rw c.in-Ok-Some.field-0-is at c.in-Ok-Some.ensures) (rw c.as_bytes.ensures.value at c.in-Err-put_durably.ensures.some)
+    (rw c.in-Ok-Some.field-0-is at c.in-Ok-Some.ensures.some) (rw c.as_bytes.ensures.value at c.in-Err-put_durably.ensures.some)
