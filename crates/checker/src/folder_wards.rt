@@ -1,0 +1,119 @@
+//! A sealed ward of a folder, made again from its ballots.
+
+ghost use Rattle.std.specs.Prelude.{◌≡◌, IfOk, None};
+ghost use Rattle.sheet.specs.Entries.{shown};
+ghost use Rattle.sheet.specs.Wards.{CanBePrinted};
+ghost use Rattle.checker.specs.Folders.{MayEnd};
+ghost use Rattle.checker.specs.FolderWards.{IsCountMade, IsReadingMade, IsWardMade};
+ghost use Rattle.checker.specs.Values.{ballots_of};
+
+use crate::counting::count_of;
+use crate::differences::first_difference;
+use crate::file_content::WardBallots;
+use crate::folder_texts::{SealedTexts, listed_ward, sealed_texts};
+use crate::problem::Problem;
+use crate::reading::read;
+use crate::wards::{Election, candidates_of, ward_in};
+use count::CountEnd;
+use sheet::ListedWard;
+use std::alloc::Global;
+
+/// A sealed ward: its texts, and what the page of all wards lists of it.
+#[derive(Drop)]
+pub(crate) struct SealedWard {
+    pub(crate) texts: SealedTexts,
+    pub(crate) listed: ListedWard,
+}
+
+/// The reason why a ward can't be made again from its ballots.
+#[derive(Clone, Copy)]
+pub(crate) enum WardFault {
+    /// The ballots or their lots have a problem, or an allocation failed.
+    Ballots(Problem),
+    /// The ballots aren't written as an office writes them. The first line that differs is `line`, counted from 1.
+    OtherForm { line: u64 },
+}
+
+/// Returns the problem of a count that ends as given, if the ward's count can't end so; `None` if it can.
+fn end_problem(end: CountEnd, is_declared: bool) -> Option<Problem>
+    ensures { result ≡ None → MayEnd is_declared end }
+{
+    match end {
+        CountEnd::Finished => None,
+        CountEnd::LotNeeded { stage, among } => {
+            if is_declared {
+                Some(Problem::LotNeeded { stage, among })
+            } else {
+                None
+            }
+        }
+        CountEnd::LotNotAmong { stage } => Some(Problem::LotNotAmong { stage }),
+    }
+}
+
+/// Counts a ward, and makes it again.
+fn counted_ward(
+    alloc: Global,
+    title: &str,
+    election: &Election,
+    is_declared: bool,
+) -> Result<SealedWard, Problem>
+    requires { CanBePrinted election.now.ward }
+    ensures { let e = election.now in IfOk result (IsCountMade title.now (shown e.ward) e.bundles.now e.lots.now is_declared) }
+{
+    let count = count_of(alloc, election)?;
+    if let Some(problem) = end_problem(count.end, is_declared) {
+        return Err(problem);
+    }
+    let Ok(texts) = sealed_texts(alloc, title, election, &count, is_declared) else {
+        return Err(Problem::Memory);
+    };
+    match listed_ward(alloc, &election.ward, &count.elected, is_declared) {
+        Ok(listed) => Ok(SealedWard { texts, listed }),
+        Err(_) => Err(Problem::Memory),
+    }
+}
+
+/// Counts the ward in a file of ballots, and makes it again.
+fn ward_from(
+    alloc: Global,
+    title: &str,
+    told: &WardBallots,
+    is_declared: bool,
+) -> Result<SealedWard, Problem>
+    ensures { IfOk result (IsReadingMade title.now (ballots_of told.now) is_declared) }
+{
+    let Ok(candidates) = candidates_of(alloc, &told.withdrawn, &told.names.names) else {
+        return Err(Problem::Memory);
+    };
+    let election = Election {
+        ward: ward_in(told, &candidates),
+        bundles: &told.bundles,
+        lots: &told.comments.lots,
+    };
+    counted_ward(alloc, title, &election, is_declared)
+}
+
+/// Makes a sealed ward again under the given title, from its ballots, which have to be written as an office writes them.
+pub(crate) fn sealed_ward(
+    alloc: Global,
+    title: &str,
+    ballots: &[u8],
+    is_declared: bool,
+) -> Result<SealedWard, WardFault>
+    ensures { IfOk result (IsWardMade title.now) }
+{
+    let told = match read(alloc, ballots) {
+        Ok(told) => told,
+        Err(problem) => return Err(WardFault::Ballots(problem)),
+    };
+    let made = match ward_from(alloc, title, &told, is_declared) {
+        Ok(made) => made,
+        Err(problem) => return Err(WardFault::Ballots(problem)),
+    };
+    if made.texts.ballots.as_bytes() != ballots {
+        let line = first_difference(ballots, made.texts.ballots.as_bytes());
+        return Err(WardFault::OtherForm { line });
+    }
+    Ok(made)
+}
