@@ -1,22 +1,29 @@
 -- A folder whose files were read and compared, and its wards one by one.
 use Rattle.std.proofs.Common.{◌≡◌, ◌∙◌, ℕ, ◌<◌, Bool, true, false, List, [], ◌∷◌, ◌++◌, length, map, refl, sym, ap, subst, arith}
-use Rattle.std.specs.Prelude.{◌||◌, bytes_eq}
+use Rattle.std.specs.Prelude.{◌||◌, Ok, bytes_eq, string_bytes}
+use Rattle.std.specs.Option.{unwrap_or}
 use Rattle.std.specs.List.{All, Any, Contains, list_all, list_any}
 use Rattle.std.proofs.lemmas.List.{get_or-map, length-map}
 use Rattle.std.proofs.lemmas.List.{All-contains, All-map, All-nil, All-push, All-weaker, AllPass-from_list_all, Any-from_list_any}
 use Rattle.publication.specs.Election.{ElectionEntry, WardEntry, ascend_from}
-use Rattle.publication.specs.Files.{FileEntry, names}
+use Rattle.publication.specs.Files.{FileEntry, file_entry, names}
+use Rattle.publication.specs.declared.files.PublishedFile.{PublishedFile}
 use Rattle.publication.specs.Folder.{published}
-use Rattle.sheet.specs.Index.{ListedEntry, index}
+use Rattle.sheet.specs.Index.{ListedEntry, index, listed}
+use Rattle.sheet.specs.declared.index.ListedWard.{ListedWard}
 use Rattle.checker.specs.FolderChecks.{IsFoundConfirmed}
 use Rattle.checker.specs.FolderViews.{IsContent, IsFileIn, are_same, has_name, has_text, is_file, is_found, is_named, name_of}
-use Rattle.checker.specs.FolderWards.{AreWardsMade}
-use Rattle.checker.specs.Folders.{FolderWard, HasExactly, IsConfirmedFolder, IsPublishedFolder, IsSealed, SealedEntry, UnsealedEntry, is_sealed, is_unsealed, listed_of, sealed_in, texts_of}
+use Rattle.checker.specs.FolderWards.{AreWardsMade, IsElectionMade, IsReadingMade, IsUnsealedMade, IsWardMade, made_election, told_texts}
+use Rattle.checker.specs.Folders.{FolderWard, HasExactly, IsConfirmedFolder, IsPublishedFolder, IsSealed, SealedEntry, UnsealedEntry, ballots_of, is_sealed, is_unsealed, listed_of, sealed_in, texts_of}
 use Rattle.checker.specs.InputFiles.{InputFiles, HoldsInside, HoldsNames}
+use Rattle.checker.specs.Reading.{ReaderEntry, read}
 use Rattle.checker.specs.Tokens.{Text}
+use Rattle.checker.specs.declared.folder_election.FolderElection.{FolderElection}
 use Rattle.checker.specs.declared.folder_files.FileContent.{FileContent}
 use Rattle.checker.specs.declared.folder_files.FileContent.TheVariants.{Bytes, Unread}
 use Rattle.checker.specs.declared.folder_files.FolderFile.{FolderFile}
+use Rattle.checker.specs.declared.folder_texts.SealedTexts.{SealedTexts}
+use Rattle.checker.specs.declared.folder_wards.SealedWard.{SealedWard}
 use Rattle.checker.proofs.LineLaws.{and_parts}
 use Rattle.checker.proofs.NumberLaws.{pointwise_same}
 
@@ -144,3 +151,50 @@ files_published title listed texts files made ordered are = record {
   are = are ∙ (ap (λ (ls : List ListedEntry). published (record { title = title; index = index title ls; wards = texts })) made.listed_are
   ∙ ap (λ (ts : List WardEntry). published (record { title = title; index = index title (map listed_of made.wards); wards = ts })) made.texts_are);
 }
+
+-- ---- for the functions
+
+-- another ward that isn't sealed was appended
+pub unsealed_pushed : (title : Text) (old new : List ListedWard) (ward : ListedWard) (texts : List WardEntry) → new ≡ old ++ ward ∷ [] → IsUnsealedMade (listed ward)
+    → AreWardsMade title (map listed old) texts → AreWardsMade title (map listed new) texts
+unsealed_pushed title old new ward texts more is made =
+    let same : map listed new ≡ map listed old ++ listed_of (is_unsealed is.ward) ∷ [] =
+    ap (map listed) more ∙ (map-push listed old ward ∙ ap (λ (l : ListedEntry). map listed old ++ l ∷ []) is.listed_is) in
+    subst (λ ls. AreWardsMade title ls texts) (sym same) (unsealed_made title (map listed old) texts is.ward made)
+
+-- another sealed ward was appended
+pub sealed_pushed : (title : Text) (old new : List ListedWard) (old_texts new_texts : List SealedTexts) (ward : SealedWard) → new ≡ old ++ ward.listed ∷ [] → new_texts ≡ old_texts ++ ward.texts ∷ []
+    → IsWardMade title ward → AreWardsMade title (map listed old) (map told_texts old_texts) → AreWardsMade title (map listed new) (map told_texts new_texts)
+sealed_pushed title old new old_texts new_texts ward more more_texts is made =
+    let same : map listed new ≡ map listed old ++ listed_of (is_sealed is.ward) ∷ [] =
+    ap (map listed) more ∙ (map-push listed old ward.listed ∙ ap (λ (l : ListedEntry). map listed old ++ l ∷ []) is.listed_is) in
+    let same_texts : map told_texts new_texts ≡ map told_texts old_texts ++ texts_of title is.ward ∷ [] =
+    ap (map told_texts) more_texts ∙ (map-push told_texts old_texts ward.texts ∙ ap (λ (t : WardEntry). map told_texts old_texts ++ t ∷ []) is.texts_are) in
+    subst (λ ts. AreWardsMade title (map listed new) ts) (sym same_texts)
+    (subst (λ ls. AreWardsMade title ls (map told_texts old_texts ++ texts_of title is.ward ∷ [])) (sym same)
+    (sealed_made title (map listed old) (map told_texts old_texts) is.ward is.so made))
+
+-- a ward that was counted from ballots is sealed, if these are the ballots that it prints
+pub ward_made : (title ballots : Text) (is_declared : Bool) (reading : ReaderEntry) (made : SealedWard) → read ballots ≡ Ok reading → IsReadingMade title reading is_declared made
+    → string_bytes made.texts.ballots ≡ ballots → IsWardMade title made
+ward_made title ballots is_declared reading made understood is same =
+    let w : SealedEntry = record { reading = reading; count = is.count; stages = is.stages; is_declared = is_declared } in
+    let own : string_bytes made.texts.ballots ≡ ballots_of w = ap (λ (t : WardEntry). unwrap_or t.ballots []) is.texts_are in
+    record {
+      ward = w;
+      so = record { understood = ap read (sym own ∙ same) ∙ understood; counted = is.counted; ends = is.ends; shows = is.shows };
+      texts_are = is.texts_are;
+      listed_is = is.listed_is;
+    }
+
+-- the files of wards that were made again, in order
+pub election_published : (title : Text) (election : FolderElection) (files : List FileEntry) → IsElectionMade title election
+    → ascend_from 0 (map (λ ward. (listed ward).number) election.listed.items) ≡ true → files ≡ published (made_election title election) → IsPublishedFolder files
+election_published title election files made ordered are =
+    files_published title (map listed election.listed.items) (map told_texts election.sealed.items) files made
+    (ap (ascend_from 0) (map_twice (λ (ward : ListedEntry). ward.number) listed election.listed.items) ∙ ordered) are
+
+-- files that were read and are those of a published election
+pub found_confirmed : (found : List FolderFile) (files : List PublishedFile) (count : ℕ) → are_same found (map file_entry files) ≡ true → IsPublishedFolder (map file_entry files)
+    → count ≡ length files → IsFoundConfirmed found count
+found_confirmed found files count same is many = record { files = map file_entry files; same = same; is = is; many = many ∙ sym (length-map files file_entry) }

@@ -4,9 +4,10 @@ use Rattle.std.specs.List.{All}
 use Rattle.publication.specs.Election.{ElectionEntry, WardEntry}
 use Rattle.sheet.specs.Index.{ListedEntry, index, listed}
 use Rattle.count.specs.Bundles.{Bundle}
+use Rattle.count.specs.declared.stages.Stage.{Stage}
 use Rattle.sheet.specs.Entries.{SheetEntry}
 use Rattle.checker.specs.Counts.{IsWardCount, lots_in}
-use Rattle.checker.specs.Folders.{FolderWard, IsSealed, MayEnd, SealedEntry, UnsealedEntry, is_sealed, is_unsealed, listed_as, listed_of, sealed_in, texts_as, texts_of}
+use Rattle.checker.specs.Folders.{AreShown, FolderWard, IsSealed, MayEnd, SealedEntry, UnsealedEntry, is_sealed, is_unsealed, listed_as, listed_of, sealed_in, texts_as, texts_of}
 use Rattle.checker.specs.Reading.{ReaderEntry}
 use Rattle.checker.specs.Wards.{ward_told}
 use Rattle.checker.specs.declared.counting.WardCount.{WardCount}
@@ -31,9 +32,11 @@ told_texts texts = record {
 -- a sealed ward was counted from the given bundles and lots, and made again under the given title
 pub record IsCountMade (title : Text) (ward : SheetEntry) (bundles : List Bundle) (lots : List (ℕ × ℕ)) (is_declared : Bool) (made : SealedWard) : Type 0 where
   pub count : WardCount
+  pub stages : List Stage
   pub counted : IsWardCount ward.poll ward bundles lots count
   pub ends : MayEnd is_declared count.end
-  pub texts_are : told_texts made.texts ≡ texts_as title ward bundles (lots_in ward.poll lots) count is_declared
+  pub shows : AreShown is_declared count.stages.items stages
+  pub texts_are : told_texts made.texts ≡ texts_as title ward bundles (lots_in ward.poll lots) stages count.elected is_declared
   pub listed_is : listed made.listed ≡ listed_as ward count.elected is_declared
 
 -- the same, from the content of a file of ballots

@@ -1,9 +1,10 @@
 -- A folder in which an election was published, checked by nothing but its own files: what has to be in it.
-use Rattle.std.specs.Prelude.{◌≡◌, ℕ, nat_eq, nat_lt, Bool, true, false, if◌then◌else◌, List, [], ◌∷◌, length, map, Some, None, Ok, ⊤}
+use Rattle.std.specs.Prelude.{◌≡◌, ℕ, nat_eq, nat_lt, Bool, true, false, if◌then◌else◌, List, [], ◌∷◌, length, map, take, Some, None, Ok, ⊤}
 use Rattle.std.specs.List.{All, Contains, filter, list_any}
 use Rattle.count.specs.Bundles.{Bundle}
 use Rattle.count.specs.declared.count_to_end.CountEnd.{CountEnd}
 use Rattle.count.specs.declared.count_to_end.CountEnd.TheVariants as end
+use Rattle.count.specs.declared.stages.Stage.{Stage}
 use Rattle.publication.specs.Election.{ElectionEntry, WardEntry, ascend_from}
 use Rattle.publication.specs.Files.{FileEntry, names}
 use Rattle.publication.specs.Folder.{published}
@@ -40,25 +41,26 @@ listed_as ward elected is_declared = record {
   elected = elected_in ward.candidates elected is_declared;
 }
 
--- its texts, as the office publishes them under the given title, with its ballots
-abbrev pub texts_as : Text → SheetEntry → List Bundle → List (ℕ × ℕ) → WardCount → Bool → WardEntry
-texts_as title ward bundles lots count is_declared = record {
+-- its texts, as the office publishes them under the given title, with its ballots; they show the given stages
+abbrev pub texts_as : Text → SheetEntry → List Bundle → List (ℕ × ℕ) → List Stage → List ℕ → Bool → WardEntry
+texts_as title ward bundles lots stages elected is_declared = record {
   number = ward.number;
   name = ward.name;
-  page = page ward title is_declared count.stages.items lots;
-  sheet = sheet ward count.stages.items;
-  declaration = if is_declared then Some (declaration ward count.elected) else None;
-  table = spreadsheet ward count.stages.items;
-  results = results ward is_declared count.stages.items lots;
+  page = page ward title is_declared stages lots;
+  sheet = sheet ward stages;
+  declaration = if is_declared then Some (declaration ward elected) else None;
+  table = spreadsheet ward stages;
+  results = results ward is_declared stages lots;
   ballots = Some (ballots ward bundles lots);
 }
 
 -- ---- the wards of a folder
 
--- a sealed ward: what its ballots say, their count, and whether the ward is declared
+-- a sealed ward: what its ballots say, their count as far as it goes, the stages that its texts show, and whether it is declared
 pub record SealedEntry : Type 0 where
   pub reading : ReaderEntry
   pub count : WardCount
+  pub stages : List Stage
   pub is_declared : Bool
 
 abbrev pub ward_of : SealedEntry → SheetEntry
@@ -72,6 +74,12 @@ lots_of w = lots_in (ward_of w).poll w.reading.remarks.lots
 abbrev pub ballots_of : SealedEntry → Text
 ballots_of w = ballots (ward_of w) w.reading.papers.bundles (lots_of w)
 
+-- the stages that a ward's texts show are the first ones of its count, and all of them if it is declared: the office may not have carried out the others yet
+pub record AreShown (is_declared : Bool) (all stages : List Stage) : Type 0 where
+  pub done : ℕ
+  pub first : stages ≡ take done all
+  pub whole : is_declared ≡ true → stages ≡ all
+
 -- how the count of a ward may end: that of a declared ward is finished; that of another may be waiting for a lot
 abbrev pub MayEnd : Bool → CountEnd → Type 0
 MayEnd is_declared end.Finished = ⊤
@@ -83,6 +91,7 @@ pub record IsSealed (w : SealedEntry) : Type 0 where
   pub understood : read (ballots_of w) ≡ Ok w.reading
   pub counted : IsWardCount (ward_of w).poll (ward_of w) w.reading.papers.bundles w.reading.remarks.lots w.count
   pub ends : MayEnd w.is_declared w.count.end
+  pub shows : AreShown w.is_declared w.count.stages.items w.stages
 
 -- a ward that isn't sealed: its number, name and seats, and whether its papers are being keyed
 pub record UnsealedEntry : Type 0 where
@@ -115,7 +124,7 @@ listed_of (is_unsealed w) = record {
 
 -- the texts of a sealed ward
 abbrev pub texts_of : Text → SealedEntry → WardEntry
-texts_of title w = texts_as title (ward_of w) w.reading.papers.bundles (lots_of w) w.count w.is_declared
+texts_of title w = texts_as title (ward_of w) w.reading.papers.bundles (lots_of w) w.stages w.count.elected w.is_declared
 
 -- what is published of the wards under the given title
 abbrev pub election_of : Text → List FolderWard → ElectionEntry

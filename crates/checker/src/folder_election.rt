@@ -6,13 +6,13 @@ ghost use Rattle.publication.specs.Files.{file_entry};
 ghost use Rattle.publication.specs.Folder.{published};
 ghost use Rattle.sheet.specs.Index.{listed};
 ghost use Rattle.checker.specs.Folders.{IsPublishedFolder};
-ghost use Rattle.checker.specs.FolderWards.{IsElectionMade, IsUnsealedMade, made_election, told_texts};
+ghost use Rattle.checker.specs.FolderWards.{IsElectionMade, IsUnsealedMade, IsWardMade, made_election, told_texts};
 ghost use Rattle.checker.specs.Tokens.{Text};
 
 use crate::folder_files::{FolderFile, bytes_in};
 use crate::folder_index::{IndexPage, IndexRow, index_page, without_entities};
 use crate::folder_texts::{SealedTexts, published_texts};
-use crate::folder_wards::{WardFault, sealed_ward};
+use crate::folder_wards::{Progress, SealedWard, WardFault, sealed_ward};
 use crate::problem::Problem;
 use publication::{PublishFault, PublishedElection, PublishedFile, WardTexts, published_files};
 use sheet::{ListedWard, WardStanding, index_text};
@@ -90,23 +90,42 @@ fn push_unsealed(
     Ok(())
 }
 
+/// Appends a sealed ward that was made again.
+fn push_made(election: &mut FolderElection, made: SealedWard) -> Result<(), AllocError>
+    ensures { OnOk result ((title : Text) → IsWardMade title made → IsElectionMade title election.old → IsElectionMade title election.new) }
+{
+    let SealedWard { texts, listed } = made;
+    election.listed.push(listed)?;
+    election.sealed.push(texts)?;
+    Ok(())
+}
+
 /// Appends a sealed ward, made again from its ballots.
 fn push_sealed(
     alloc: Global,
     title: &str,
     election: &mut FolderElection,
     ballots: &[u8],
-    is_declared: bool,
+    progress: Progress,
 ) -> Result<(), WardFault>
     ensures { OnOk result (IsElectionMade title.now election.old → IsElectionMade title.now election.new) }
 {
-    let made = sealed_ward(alloc, title, ballots, is_declared)?;
-    if election.listed.push(made.listed).is_err() {
-        return Err(WardFault::Ballots(Problem::Memory));
-    }
-    match election.sealed.push(made.texts) {
+    let made = sealed_ward(alloc, title, ballots, progress)?;
+    match push_made(election, made) {
         Ok(()) => Ok(()),
         Err(_) => Err(WardFault::Ballots(Problem::Memory)),
+    }
+}
+
+/// Returns how many stages the stage sheet of a ward shows. It is confirmed later, since the sheet is made again.
+fn stages_done(alloc: Global, found: &[FolderFile], ward: u8) -> Result<usize, AllocError> {
+    let name = format!(in alloc; "ward-{ward}-sheet.txt")?;
+    let Some(bytes) = bytes_in(found, name.as_str()) else {
+        return Ok(usize::MAX);
+    };
+    match str::from_utf8(bytes) {
+        Ok(text) => Ok(text.lines().filter(|line| line.starts_with("Stage ")).count()),
+        Err(_) => Ok(usize::MAX),
     }
 }
 
@@ -127,7 +146,11 @@ fn push_from(
     let Some(ballots) = bytes_in(found, name.as_str()) else {
         return Err(MakeFault::WardMissing { ward });
     };
-    match push_sealed(alloc, title, election, ballots, is_declared) {
+    let Ok(done) = stages_done(alloc, found, ward) else {
+        return Err(MakeFault::Memory);
+    };
+    let progress = Progress { is_declared, done };
+    match push_sealed(alloc, title, election, ballots, progress) {
         Ok(()) => Ok(()),
         Err(WardFault::Ballots(Problem::Memory)) => Err(MakeFault::Memory),
         Err(fault) => Err(MakeFault::Ward { ward, fault }),

@@ -12,8 +12,8 @@ ghost use Rattle.checker.specs.Folders.{elected_in, listed_as, texts_as};
 ghost use Rattle.checker.specs.FolderWards.{told_texts};
 
 use crate::ballot_counts::lots_in;
-use crate::counting::WardCount;
 use crate::wards::Election;
+use count::Stage;
 use paper::Columns;
 use publication::WardTexts;
 use sheet::{
@@ -51,24 +51,24 @@ fn declaration_if(
     Ok(Some(declaration_text(alloc, ward, elected)?))
 }
 
-/// Returns the texts of a counted ward under the given title.
+/// Returns the texts of a ward under the given title, showing the given stages.
 pub(crate) fn sealed_texts(
     alloc: Global,
     title: &str,
     election: &Election,
-    count: &WardCount,
+    stages: &[Stage],
+    elected: Columns,
     is_declared: bool,
 ) -> Result<SealedTexts, AllocError>
     requires { CanBePrinted election.now.ward }
     ensures { let e = election.now in IfOk result (λ texts. told_texts texts
-        ≡ texts_as title.now (shown e.ward) e.bundles.now (lots_in e.ward.poll e.lots.now) count.now is_declared) }
+        ≡ texts_as title.now (shown e.ward) e.bundles.now (lots_in e.ward.poll e.lots.now) stages.now elected is_declared) }
 {
     let ward = &election.ward;
-    let stages = &count.stages;
     let lots = lots_in(election);
     let page = page_text(alloc, ward, title, is_declared, stages, lots)?;
     let sheet = sheet_text(alloc, ward, stages)?;
-    let declaration = declaration_if(alloc, ward, count.elected, is_declared)?;
+    let declaration = declaration_if(alloc, ward, elected, is_declared)?;
     let table = spreadsheet_text(alloc, ward, stages)?;
     let results = results_text(alloc, ward, is_declared, stages, lots)?;
     let ballots = ballots_text(alloc, ward, election.bundles, lots)?;

@@ -3,7 +3,7 @@
 ghost use Rattle.std.specs.Prelude.{◌≡◌, IfOk, None};
 ghost use Rattle.sheet.specs.Entries.{shown};
 ghost use Rattle.sheet.specs.Wards.{CanBePrinted};
-ghost use Rattle.checker.specs.Folders.{MayEnd};
+ghost use Rattle.checker.specs.Folders.{AreShown, MayEnd};
 ghost use Rattle.checker.specs.FolderWards.{IsCountMade, IsReadingMade, IsWardMade};
 ghost use Rattle.checker.specs.Values.{ballots_of};
 
@@ -14,7 +14,7 @@ use crate::folder_texts::{SealedTexts, listed_ward, sealed_texts};
 use crate::problem::Problem;
 use crate::reading::read;
 use crate::wards::{Election, candidates_of, ward_in};
-use count::CountEnd;
+use count::{CountEnd, Stage};
 use sheet::ListedWard;
 use std::alloc::Global;
 
@@ -23,6 +23,13 @@ use std::alloc::Global;
 pub(crate) struct SealedWard {
     pub(crate) texts: SealedTexts,
     pub(crate) listed: ListedWard,
+}
+
+/// How far a ward is: whether it is declared and, if it isn't, how many stages its texts show at most.
+#[derive(Clone, Copy)]
+pub(crate) struct Progress {
+    pub(crate) is_declared: bool,
+    pub(crate) done: usize,
 }
 
 /// The reason why a ward can't be made again from its ballots.
@@ -51,21 +58,36 @@ fn end_problem(end: CountEnd, is_declared: bool) -> Option<Problem>
     }
 }
 
+/// Returns the stages that the texts of a ward show: the first ones of its count, and all of them if it is declared.
+fn shown_stages(all: &[Stage], progress: Progress) -> &[Stage]
+    ensures { AreShown progress.is_declared all.now result.now }
+{
+    if progress.is_declared {
+        return all;
+    }
+    if all.len() <= progress.done {
+        return all;
+    }
+    &all[..progress.done]
+}
+
 /// Counts a ward, and makes it again.
 fn counted_ward(
     alloc: Global,
     title: &str,
     election: &Election,
-    is_declared: bool,
+    progress: Progress,
 ) -> Result<SealedWard, Problem>
     requires { CanBePrinted election.now.ward }
-    ensures { let e = election.now in IfOk result (IsCountMade title.now (shown e.ward) e.bundles.now e.lots.now is_declared) }
+    ensures { let e = election.now in IfOk result (IsCountMade title.now (shown e.ward) e.bundles.now e.lots.now progress.is_declared) }
 {
     let count = count_of(alloc, election)?;
+    let is_declared = progress.is_declared;
     if let Some(problem) = end_problem(count.end, is_declared) {
         return Err(problem);
     }
-    let Ok(texts) = sealed_texts(alloc, title, election, &count, is_declared) else {
+    let stages = shown_stages(&count.stages, progress);
+    let Ok(texts) = sealed_texts(alloc, title, election, stages, count.elected, is_declared) else {
         return Err(Problem::Memory);
     };
     match listed_ward(alloc, &election.ward, &count.elected, is_declared) {
@@ -79,9 +101,9 @@ fn ward_from(
     alloc: Global,
     title: &str,
     told: &WardBallots,
-    is_declared: bool,
+    progress: Progress,
 ) -> Result<SealedWard, Problem>
-    ensures { IfOk result (IsReadingMade title.now (ballots_of told.now) is_declared) }
+    ensures { IfOk result (IsReadingMade title.now (ballots_of told.now) progress.is_declared) }
 {
     let Ok(candidates) = candidates_of(alloc, &told.withdrawn, &told.names.names) else {
         return Err(Problem::Memory);
@@ -91,7 +113,7 @@ fn ward_from(
         bundles: &told.bundles,
         lots: &told.comments.lots,
     };
-    counted_ward(alloc, title, &election, is_declared)
+    counted_ward(alloc, title, &election, progress)
 }
 
 /// Makes a sealed ward again under the given title, from its ballots, which have to be written as an office writes them.
@@ -99,7 +121,7 @@ pub(crate) fn sealed_ward(
     alloc: Global,
     title: &str,
     ballots: &[u8],
-    is_declared: bool,
+    progress: Progress,
 ) -> Result<SealedWard, WardFault>
     ensures { IfOk result (IsWardMade title.now) }
 {
@@ -107,7 +129,7 @@ pub(crate) fn sealed_ward(
         Ok(told) => told,
         Err(problem) => return Err(WardFault::Ballots(problem)),
     };
-    let made = match ward_from(alloc, title, &told, is_declared) {
+    let made = match ward_from(alloc, title, &told, progress) {
         Ok(made) => made,
         Err(problem) => return Err(WardFault::Ballots(problem)),
     };
