@@ -1,23 +1,30 @@
 -- A folder whose files were read and compared, and its wards one by one.
-use Rattle.std.proofs.Common.{◌≡◌, ◌∙◌, ℕ, ◌<◌, Bool, true, false, List, [], ◌∷◌, ◌++◌, length, map, refl, sym, ap, subst, arith}
-use Rattle.std.specs.Prelude.{◌||◌, Ok, bytes_eq, string_bytes}
+use Rattle.std.proofs.Common.{◌≡◌, ◌∙◌, ℕ, ◌<◌, Bool, true, false, String, Global, List, [], ◌∷◌, ◌++◌, length, map, refl, sym, ap, subst, arith}
+use Rattle.std.specs.Prelude.{if◌then◌else◌, Ok, bytes_eq, string_bytes}
 use Rattle.std.specs.Option.{unwrap_or}
 use Rattle.std.specs.List.{All, Any, Contains, list_all, list_any}
-use Rattle.std.proofs.lemmas.List.{get_or-map, length-map}
-use Rattle.std.proofs.lemmas.List.{All-contains, All-map, All-nil, All-push, All-weaker, AllPass-from_list_all, Any-from_list_any}
+use Rattle.std.proofs.lemmas.List.{get_or-map, length-map, take_all}
+use Rattle.std.proofs.lemmas.List.Elements.{All-contains, All-map, All-nil, All-push, All-weaker}
+use Rattle.std.proofs.lemmas.List.Folds.{Any-from_list_any}
+use Rattle.std.proofs.lemmas.List.Sums.{AllPass-from_list_all}
 use Rattle.publication.specs.Election.{ElectionEntry, WardEntry, ascend_from}
 use Rattle.publication.specs.Files.{FileEntry, file_entry, names}
 use Rattle.publication.specs.declared.files.PublishedFile.{PublishedFile}
 use Rattle.publication.specs.Folder.{published}
-use Rattle.sheet.specs.Index.{ListedEntry, index, listed}
+use Rattle.count.specs.declared.stages.Stage.{Stage}
+use Rattle.sheet.specs.Index.{ListedEntry, elected_shown, index, listed}
+use Rattle.sheet.specs.declared.index.WardStanding.{WardStanding}
+use Rattle.sheet.specs.declared.index.WardStanding.TheVariants.{Keying, Nominations}
 use Rattle.sheet.specs.declared.index.ListedWard.{ListedWard}
-use Rattle.checker.specs.FolderChecks.{IsFoundConfirmed}
+use Rattle.checker.specs.FolderChecks.{IsFolderChecked, IsFoundChecked, IsFoundConfirmed}
 use Rattle.checker.specs.FolderViews.{IsContent, IsFileIn, are_same, has_name, has_text, is_file, is_found, is_named, name_of}
 use Rattle.checker.specs.FolderWards.{AreWardsMade, IsElectionMade, IsReadingMade, IsUnsealedMade, IsWardMade, made_election, told_texts}
-use Rattle.checker.specs.Folders.{FolderWard, HasExactly, IsConfirmedFolder, IsPublishedFolder, IsSealed, SealedEntry, UnsealedEntry, ballots_of, is_sealed, is_unsealed, listed_of, sealed_in, texts_of}
+use Rattle.checker.specs.Folders.{AreShown, FolderWard, HasExactly, IsConfirmedFolder, IsPublishedFolder, IsSealed, SealedEntry, UnsealedEntry, ballots_of, is_sealed, is_unsealed, listed_of, sealed_in, texts_of}
 use Rattle.checker.specs.InputFiles.{InputFiles, HoldsInside, HoldsNames}
 use Rattle.checker.specs.Reading.{ReaderEntry, read}
 use Rattle.checker.specs.Tokens.{Text}
+use Rattle.checker.specs.declared.folder_checking.FolderChecked.{FolderChecked}
+use Rattle.checker.specs.declared.folder_checking.FolderChecked.TheVariants.{Confirmed, Differs}
 use Rattle.checker.specs.declared.folder_election.FolderElection.{FolderElection}
 use Rattle.checker.specs.declared.folder_files.FileContent.{FileContent}
 use Rattle.checker.specs.declared.folder_files.FileContent.TheVariants.{Bytes, Unread}
@@ -28,11 +35,6 @@ use Rattle.checker.proofs.LineLaws.{and_parts}
 use Rattle.checker.proofs.NumberLaws.{pointwise_same}
 
 -- ---- the comparison
-
--- whether the value of some element passes a test
-pub list_any-map : {X Y : Type 0} (p : Y → Bool) (f : X → Y) (xs : List X) → list_any p (map f xs) ≡ list_any (λ x. p (f x)) xs
-list_any-map p f [] = refl
-list_any-map p f (x ∷ xs) = ap (λ b. p (f x) || b) (list_any-map p f xs)
 
 -- an element's value is among the values of all
 Contains-map : {X Y : Type 0} (f : X → Y) (xs : List X) (x : X) → Contains xs x → Contains (map f xs) (f x)
@@ -47,8 +49,8 @@ held_text held path name text (Unread why) is same = absurd (cc)
 -- a file that was found is in the folder, with its text
 held_found : (held : InputFiles) (path : Text) (found : List FolderFile) (file : FileEntry) → All (IsFileIn held path) found → is_found found file ≡ true
     → HoldsInside held path file.name file.text × Contains (map name_of found) file.name
-held_found held path found file all yes =
-    let some = Any-from_list_any (is_file file) found yes in
+held_found held path found file all so =
+    let some = Any-from_list_any (is_file file) found so in
     let f = some.1 in
     let at : Contains found f = (some.0, some.2, some.3) in
     let parts = and_parts (bytes_eq (name_of f) file.name) (has_text file.text f.content) some.4 in
@@ -58,8 +60,8 @@ held_found held path found file all yes =
 
 -- a file of a folder with the name of one of the given files
 named_among : (files : List FileEntry) (f : FolderFile) → is_named files f ≡ true → Contains (names files) (name_of f)
-named_among files f yes =
-    let some = Any-from_list_any (has_name (name_of f)) files yes in
+named_among files f so =
+    let some = Any-from_list_any (has_name (name_of f)) files so in
     let same : some.1.name ≡ name_of f = pointwise_same some.1.name (name_of f) some.4 in
     subst (Contains (names files)) same (Contains-map (λ (file : FileEntry). file.name) files some.1 (some.0, some.2, some.3))
 
@@ -74,12 +76,12 @@ exactly_same held path inside found files listed read all same =
       inside = inside;
       listed = listed;
       there = All-weaker (λ file. is_found found file ≡ true) (λ (file : FileEntry). Contains inside file.name)
-      (λ file yes. subst (λ ns. Contains ns file.name) read (held_found held path found file all yes).1) files each;
+          (λ file so. subst (λ ns. Contains ns file.name) read (held_found held path found file all so).1) files each;
       same = All-weaker (λ file. is_found found file ≡ true) (λ (file : FileEntry). HoldsInside held path file.name file.text)
-      (λ file yes. (held_found held path found file all yes).0) files each;
+          (λ file so. (held_found held path found file all so).0) files each;
       alone = subst (All (Contains (names files))) read
-      (All-map (Contains (names files)) name_of found
-      (All-weaker (λ f. is_named files f ≡ true) (λ f. Contains (names files) (name_of f)) (λ f yes. named_among files f yes) found named));
+          (All-map (Contains (names files)) name_of found
+          (All-weaker (λ f. is_named files f ≡ true) (λ f. Contains (names files) (name_of f)) (λ f so. named_among files f so) found named));
     }
 
 pub folder_confirmed : (held : InputFiles) (path : Text) (inside : List Text) (found : List FolderFile) (count : ℕ) → HoldsNames held path inside
@@ -149,7 +151,7 @@ files_published title listed texts files made ordered are = record {
   counted = made.so;
   ordered = ap (ascend_from 0) (sym (map_twice (λ (ward : ListedEntry). ward.number) listed_of made.wards) ∙ ap (map (λ (ward : ListedEntry). ward.number)) (sym made.listed_are)) ∙ ordered;
   are = are ∙ (ap (λ (ls : List ListedEntry). published (record { title = title; index = index title ls; wards = texts })) made.listed_are
-  ∙ ap (λ (ts : List WardEntry). published (record { title = title; index = index title (map listed_of made.wards); wards = ts })) made.texts_are);
+      ∙ ap (λ (ts : List WardEntry). published (record { title = title; index = index title (map listed_of made.wards); wards = ts })) made.texts_are);
 }
 
 -- ---- for the functions
@@ -198,3 +200,24 @@ election_published title election files made ordered are =
 pub found_confirmed : (found : List FolderFile) (files : List PublishedFile) (count : ℕ) → are_same found (map file_entry files) ≡ true → IsPublishedFolder (map file_entry files)
     → count ≡ length files → IsFoundConfirmed found count
 found_confirmed found files count same is many = record { files = map file_entry files; same = same; is = is; many = many ∙ sym (length-map files file_entry) }
+
+-- the texts of a ward show its whole count
+pub all_shown : (is_declared : Bool) (all : List Stage) → AreShown is_declared all all
+all_shown is_declared all = record { done = length all; first = sym (take_all (length all) all (omega arith)); whole = λ so. refl }
+
+-- a ward that isn't sealed, as it is listed
+pub unsealed_listed : (number seats : ℕ) (name : Text) (is_keying : Bool) (standing : WardStanding) (elected : List (ℕ × String Global)) → standing ≡ (if is_keying then Keying else Nominations) → elected ≡ []
+    → IsUnsealedMade (record { number = number; name = name; seats = seats; standing = standing; is_contested = false; elected = map elected_shown elected })
+unsealed_listed number seats name is_keying standing elected so none =
+    let listed_so : WardStanding → List (ℕ × String Global) → ListedEntry =
+    λ s es. record { number = number; name = name; seats = seats; standing = s; is_contested = false; elected = map elected_shown es } in
+    record {
+      ward = record { number = number; name = name; seats = seats; is_keying = is_keying };
+      listed_is = ap (λ s. listed_so s elected) so ∙ ap (λ es. listed_so (if is_keying then Keying else Nominations) es) none;
+    }
+
+-- the outcome for a folder, given that for its files
+pub folder_checked : (held : InputFiles) (path : Text) (inside : List Text) (found : List FolderFile) (checked : FolderChecked) → HoldsNames held path inside
+    → map name_of found ≡ inside → All (IsFileIn held path) found → IsFoundChecked found checked → IsFolderChecked held path checked
+folder_checked held path inside found (Confirmed count) listed read all so = folder_confirmed held path inside found count listed read all so
+folder_checked held path inside found (Differs lines) listed read all so = tt

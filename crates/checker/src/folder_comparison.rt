@@ -43,14 +43,24 @@ fn has_name(name: &str, file: &PublishedFile) -> bool
 pub(crate) fn is_named(files: &[PublishedFile], found: &FolderFile) -> bool
     ensures { result ≡ is_named (map file_entry files.now) found.now }
 {
-    files.iter().any(|file| has_name(found.name.as_str(), file))
+    for file in files {
+        if has_name(found.name.as_str(), file) {
+            return true;
+        }
+    }
+    false
 }
 
 /// Returns whether each of the given files is in a folder.
 fn are_found(found: &[FolderFile], files: &[PublishedFile]) -> bool
     ensures { result ≡ list_all (is_found found.now) (map file_entry files.now) }
 {
-    files.iter().all(|file| is_found(found, file))
+    for file in files {
+        if !is_found(found, file) {
+            return false;
+        }
+    }
+    true
 }
 
 /// Returns whether each file of a folder has the name of one of the given files.

@@ -59,11 +59,7 @@ fn unsealed_standing(is_keying: bool) -> WardStanding
 }
 
 /// Returns a ward that isn't sealed, as the page of all wards lists it.
-fn unsealed_ward(
-    alloc: Global,
-    row: &IndexRow,
-    is_keying: bool,
-) -> Result<ListedWard, AllocError>
+fn unsealed_ward(alloc: Global, row: &IndexRow, is_keying: bool) -> Result<ListedWard, AllocError>
     ensures { IfOk result (λ ward. IsUnsealedMade (listed ward)) }
 {
     Ok(ListedWard {
@@ -124,7 +120,11 @@ fn stages_done(alloc: Global, found: &[FolderFile], ward: u8) -> Result<usize, A
         return Ok(usize::MAX);
     };
     match str::from_utf8(bytes) {
-        Ok(text) => Ok(text.lines().filter(|line| line.starts_with("Stage ")).count()),
+        Ok(text) => Ok(
+            text.lines()
+                .filter(|line| line.starts_with("Stage "))
+                .count(),
+        ),
         Err(_) => Ok(usize::MAX),
     }
 }
@@ -217,10 +217,7 @@ fn are_in_order(wards: &[ListedWard]) -> bool
 }
 
 /// Returns the texts of wards, to be published.
-fn texts_of<'a>(
-    alloc: Global,
-    wards: &'a [SealedTexts],
-) -> Result<Vec<WardTexts<'a>>, AllocError>
+fn texts_of<'a>(alloc: Global, wards: &'a [SealedTexts]) -> Result<Vec<WardTexts<'a>>, AllocError>
     ensures { IfOk result (λ texts. map ward_entry texts.items ≡ map told_texts wards.entry.now) }
 {
     let mut texts = Vec::new(alloc);
@@ -265,10 +262,14 @@ fn files_of(
 
 /// Returns whether there are sealed wards, but no ballots in the folder.
 fn lacks_ballots(rows: &[IndexRow], found: &[FolderFile]) -> bool {
-    let has_sealed = rows
-        .iter()
-        .any(|row| matches!(row.standing, WardStanding::Sealed | WardStanding::Declared));
-    has_sealed && !found.iter().any(|file| file.name.as_str().ends_with("-ballots.txt"))
+    let has_sealed = rows.iter().any(|row| matches!(
+        row.standing,
+        WardStanding::Sealed | WardStanding::Declared
+    ));
+    has_sealed
+        && !found
+            .iter()
+            .any(|file| file.name.as_str().ends_with("-ballots.txt"))
 }
 
 /// Returns the files of the election that a page of all wards and the ballots in a folder describe.
@@ -282,11 +283,12 @@ fn files_for(
     let Ok(title) = without_entities(alloc, page.title) else {
         return Err(MakeFault::Memory);
     };
-    let election = election_of(alloc, title.as_str(), found, &page.rows)?;
+    let text = title.as_str();
+    let election = election_of(alloc, text, found, &page.rows)?;
     if !are_in_order(&election.listed) {
         return Err(MakeFault::NotIndex);
     }
-    match files_of(alloc, title.as_str(), &election) {
+    match files_of(alloc, text, &election) {
         Ok(files) => Ok(files),
         Err(fault) => Err(fault),
     }

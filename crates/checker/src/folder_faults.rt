@@ -37,7 +37,7 @@ fn is_line_of(line: &str, name: &str) -> bool {
 }
 
 /// Returns what is wrong with the sum of a file; `None` if the sums list it.
-pub(crate) fn sum_fault(
+fn sum_fault(
     alloc: Global,
     sums: &str,
     name: &str,
@@ -61,6 +61,20 @@ pub(crate) fn sum_fault(
     }
 }
 
+/// Appends a line about a file whose sum isn't listed.
+pub(crate) fn push_sum_fault(
+    alloc: Global,
+    lines: &mut String,
+    sums: &str,
+    name: &str,
+    bytes: &[u8],
+) -> Result<(), AllocError> {
+    match sum_fault(alloc, sums, name, bytes)? {
+        None => Ok(()),
+        Some(fault) => push_line(alloc, lines, name, fault),
+    }
+}
+
 /// Appends a line about a file whose bytes aren't those of the file that was made again.
 fn push_difference(
     alloc: Global,
@@ -77,8 +91,9 @@ fn push_difference(
             push_line(alloc, lines, name, words.as_str())
         }
         Some(fault) => {
-            let words =
-                format!(in alloc; "line {line} differs from what the ballots give, and {fault}")?;
+            let words = format!(in alloc;
+                "line {line} differs from what the ballots give, and {fault}"
+            )?;
             push_line(alloc, lines, name, words.as_str())
         }
     }
@@ -96,8 +111,10 @@ fn push_fault(
     match found.iter().find(|each| each.name.as_str() == name) {
         None => push_line(alloc, lines, name, "is missing"),
         Some(each) => match &each.content {
-            FileContent::Bytes(bytes) if bytes.as_slice() == file.text.as_bytes() => Ok(()),
             FileContent::Bytes(_) if name == SUMS => Ok(()),
+            FileContent::Bytes(bytes) if bytes.as_slice() == file.text.as_bytes() => {
+                push_sum_fault(alloc, lines, sums, name, bytes)
+            }
             FileContent::Bytes(bytes) => push_difference(alloc, lines, sums, file, bytes),
             FileContent::Unread(why) => push_unread(alloc, lines, name, why.as_str()),
         },
@@ -115,7 +132,7 @@ pub(crate) fn push_unread(
     push_line(alloc, lines, name, words.as_str())
 }
 
-/// Appends a line about the sums, given that all other files are right.
+/// Appends a line about the sums, given that they have the sum of each other file.
 fn push_sums_fault(
     alloc: Global,
     lines: &mut String,

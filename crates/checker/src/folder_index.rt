@@ -7,6 +7,7 @@ use std::alloc::{AllocError, Global};
 
 /// What precedes the title on the page, and what follows it.
 const BEFORE_TITLE: &str = "<span>Wards</span> <bdi>";
+
 const AFTER_TITLE: &str = "</bdi></p>";
 
 /// What precedes the row of a ward.
@@ -50,7 +51,11 @@ fn row_at(page: &str) -> Option<IndexRow<'_>> {
     let (name, after) = after.split_once("</bdi></th><td>")?;
     let (seats, after) = after.split_once("</td><td>")?;
     let (words, _) = after.split_once("</td>")?;
-    match (number.parse::<u8>(), seats.parse::<u8>(), standing_of(words)) {
+    match (
+        number.parse::<u8>(),
+        seats.parse::<u8>(),
+        standing_of(words),
+    ) {
         (Ok(number), Ok(seats), Some(standing)) => Some(IndexRow {
             number,
             name,

@@ -3,13 +3,13 @@
 //! No clause says how a line reads, as for the other faults of a folder.
 
 use crate::folder_election::{MakeFault, ballots_name};
-use crate::folder_faults::{SUMS, push_line, push_unread, sum_fault, sums_in};
+use crate::folder_faults::{SUMS, push_line, push_sum_fault, push_unread, sums_in};
 use crate::folder_files::{FileContent, FolderFile};
 use crate::folder_wards::WardFault;
 use std::alloc::{AllocError, Global};
 
 /// Appends a line about a file that can't be read, or whose sum isn't listed.
-fn push_sum_fault(
+fn push_found_fault(
     alloc: Global,
     lines: &mut String,
     sums: &str,
@@ -19,10 +19,7 @@ fn push_sum_fault(
     match &file.content {
         FileContent::Unread(why) => push_unread(alloc, lines, name, why.as_str()),
         FileContent::Bytes(_) if name == SUMS => Ok(()),
-        FileContent::Bytes(bytes) => match sum_fault(alloc, sums, name, bytes)? {
-            None => Ok(()),
-            Some(fault) => push_line(alloc, lines, name, fault),
-        },
+        FileContent::Bytes(bytes) => push_sum_fault(alloc, lines, sums, name, bytes),
     }
 }
 
@@ -58,7 +55,12 @@ fn ward_words(alloc: Global, fault: &WardFault) -> Result<String, AllocError> {
 fn push_reason(alloc: Global, lines: &mut String, fault: &MakeFault) -> Result<(), AllocError> {
     match fault {
         MakeFault::Memory => Err(AllocError),
-        MakeFault::NoIndex => push_line(alloc, lines, "index.html", "can't be read, so no ward was counted"),
+        MakeFault::NoIndex => push_line(
+            alloc,
+            lines,
+            "index.html",
+            "can't be read, so no ward was counted",
+        ),
         MakeFault::NotIndex => push_line(
             alloc,
             lines,
@@ -70,7 +72,12 @@ fn push_reason(alloc: Global, lines: &mut String, fault: &MakeFault) -> Result<(
         ),
         MakeFault::WardMissing { ward } => {
             let name = ballots_name(alloc, *ward)?;
-            push_line(alloc, lines, name.as_str(), "can't be read, so no file was compared")
+            push_line(
+                alloc,
+                lines,
+                name.as_str(),
+                "can't be read, so no file was compared",
+            )
         }
         MakeFault::Ward { ward, fault } => {
             let name = ballots_name(alloc, *ward)?;
@@ -89,7 +96,7 @@ pub(crate) fn unmade_lines(
     let mut lines = String::new(alloc);
     let sums = sums_in(found);
     for file in found {
-        push_sum_fault(alloc, &mut lines, sums, file)?;
+        push_found_fault(alloc, &mut lines, sums, file)?;
     }
     push_missing(alloc, &mut lines, sums, found)?;
     push_reason(alloc, &mut lines, fault)?;

@@ -1,6 +1,6 @@
 //! A sealed ward of a folder, made again from its ballots.
 
-ghost use Rattle.std.specs.Prelude.{◌≡◌, IfOk, None};
+ghost use Rattle.std.specs.Prelude.{◌≡◌, bytes_eq, IfOk, None};
 ghost use Rattle.sheet.specs.Entries.{shown};
 ghost use Rattle.sheet.specs.Wards.{CanBePrinted};
 ghost use Rattle.checker.specs.Folders.{AreShown, MayEnd};
@@ -83,8 +83,9 @@ fn counted_ward(
 {
     let count = count_of(alloc, election)?;
     let is_declared = progress.is_declared;
-    if let Some(problem) = end_problem(count.end, is_declared) {
-        return Err(problem);
+    match end_problem(count.end, is_declared) {
+        Some(problem) => return Err(problem),
+        None => {}
     }
     let stages = shown_stages(&count.stages, progress);
     let Ok(texts) = sealed_texts(alloc, title, election, stages, count.elected, is_declared) else {
@@ -116,6 +117,13 @@ fn ward_from(
     counted_ward(alloc, title, &election, progress)
 }
 
+/// Returns whether a text has the given bytes.
+fn are_bytes(text: &str, bytes: &[u8]) -> bool
+    ensures { result ≡ bytes_eq text.now bytes.now }
+{
+    text.as_bytes() == bytes
+}
+
 /// Makes a sealed ward again under the given title, from its ballots, which have to be written as an office writes them.
 pub(crate) fn sealed_ward(
     alloc: Global,
@@ -133,9 +141,9 @@ pub(crate) fn sealed_ward(
         Ok(made) => made,
         Err(problem) => return Err(WardFault::Ballots(problem)),
     };
-    if made.texts.ballots.as_bytes() != ballots {
-        let line = first_difference(ballots, made.texts.ballots.as_bytes());
-        return Err(WardFault::OtherForm { line });
+    if are_bytes(made.texts.ballots.as_str(), ballots) {
+        return Ok(made);
     }
-    Ok(made)
+    let line = first_difference(ballots, made.texts.ballots.as_bytes());
+    Err(WardFault::OtherForm { line })
 }

@@ -13,6 +13,9 @@ use std::test::Fail;
 
 const TITLE: &str = "City \"A\" & 'B' <C>";
 
+/// How many bytes of each file are changed, one at a time.
+const STEPS: usize = 5;
+
 /// The ballots of a ward whose count is waiting for a lot.
 const TIED: &str = r#"3 1
 2 1 0
@@ -201,10 +204,7 @@ const LISTED: [(u32, &str, u32, WardStanding, bool, &[(u32, &str)]); 5] = [
 ];
 
 /// Returns the given candidates.
-fn elected_of(
-    alloc: Global,
-    elected: &[(u32, &str)],
-) -> Result<Vec<(u32, String)>, AllocError> {
+fn elected_of(alloc: Global, elected: &[(u32, &str)]) -> Result<Vec<(u32, String)>, AllocError> {
     let mut all = Vec::new(alloc);
     for (number, name) in elected {
         all.push((*number, String::from_str(alloc, *name)?))?;
@@ -284,15 +284,15 @@ fn is_noticed(
     }
 }
 
-/// Checks that each of the changed bytes of a file is noticed: all of a short file, some of a long one.
+/// Checks that changed bytes of a file are noticed: the first, and others at equal distances.
 fn are_bytes_noticed(
     rt: &(impl Abort + AllocGlobal),
     files: &[PublishedFile],
     number: usize,
     file: &PublishedFile,
 ) -> Result<(), Fail> {
-    let step = file.text.len() / 40 + 1;
-    for place in 0..40 {
+    let step = file.text.len() / STEPS + 1;
+    for place in 0..STEPS {
         let at = place * step;
         if at >= file.text.len() {
             break;
