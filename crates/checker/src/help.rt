@@ -22,8 +22,8 @@ For a sheet the status is 0 where the text is the very one that these ballots, r
 and lots give. It is 1 where the text differs: the program prints the first line that differs,
 and what it should be.
 
-For both it is 2 where the words or the ballots are not understood, or a lot is wanting.
-It is 3 where a file can't be read, memory is wanting, or an output fails.
+It is 2 where the words or the ballots of a sheet are not understood, or a lot is wanting. It is
+3 where the folder or a sheet's file can't be read, memory is wanting, or an output fails.
 ";
 
 /// The help on counting.
