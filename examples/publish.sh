@@ -118,7 +118,7 @@ list_files() {
     (cd "$folder/declared" && sha256sum --check --quiet SHA256SUMS) 2>&1 || true
     play - check declared
 
-    # also if its sum was changed with it; and ballots, a sum, a file that is missing, another one, and a link
+    # also if its sum was changed with it; or only the sum; and a link, a file that is missing, another one, and ballots that aren't understood
     (cd "$folder/declared" && sha256sum -- *.html *.txt *.csv *.json >SHA256SUMS)
     play - check declared
     cp "$folder/sheet.txt" "$folder/declared/ward-7-sheet.txt"
@@ -126,7 +126,6 @@ list_files() {
     rm "$folder/declared/check.html" "$folder/declared/ward-7-table.csv"
     ln -s ../sheet.txt "$folder/declared/ward-7-table.csv"
     cp "$folder/sheet.txt" "$folder/declared/notes.txt"
-    sed -i '2s/^1 /2 /' "$folder/declared/ward-7-ballots.txt"
     play - check declared
     sed -i '2s/ 0$//' "$folder/declared/ward-7-ballots.txt"
     play - check declared
