@@ -19,7 +19,8 @@ use Rattle.sheet.specs.declared.index.ListedWard.{ListedWard}
 use Rattle.checker.specs.FolderChecks.{IsFolderChecked, IsFoundChecked, IsFoundConfirmed}
 use Rattle.checker.specs.FolderViews.{IsContent, IsFileIn, are_same, has_name, has_text, is_file, is_found, is_named, name_of}
 use Rattle.checker.specs.FolderWards.{AreWardsMade, IsElectionMade, IsReadingMade, IsUnsealedMade, IsWardMade, made_election, told_texts}
-use Rattle.checker.specs.Folders.{AreShown, FolderWard, HasExactly, IsConfirmedFolder, IsPublishedFolder, IsSealed, SealedEntry, UnsealedEntry, ballots_of, is_sealed, is_unsealed, listed_of, sealed_in, texts_of}
+use Rattle.checker.specs.Folders.{AreShown, FolderWard, HasExactly, IsConfirmedFolder, IsPublishedFolder, IsSealed, SealedEntry, UnsealedEntry}
+use Rattle.checker.specs.Folders.{ballots_of, is_sealed, is_unsealed, listed_of, sealed_in, texts_of}
 use Rattle.checker.specs.InputFiles.{InputFiles, HoldsInside, HoldsNames}
 use Rattle.checker.specs.Reading.{ReaderEntry, read}
 use Rattle.checker.specs.Tokens.{Text}
@@ -206,7 +207,8 @@ pub all_shown : (is_declared : Bool) (all : List Stage) → AreShown is_declared
 all_shown is_declared all = record { done = length all; first = sym (take_all (length all) all (omega arith)); whole = λ so. refl }
 
 -- a ward that isn't sealed, as it is listed
-pub unsealed_listed : (number seats : ℕ) (name : Text) (is_keying : Bool) (standing : WardStanding) (elected : List (ℕ × String Global)) → standing ≡ (if is_keying then Keying else Nominations) → elected ≡ []
+pub unsealed_listed : (number seats : ℕ) (name : Text) (is_keying : Bool) (standing : WardStanding) (elected : List (ℕ × String Global))
+    → standing ≡ (if is_keying then Keying else Nominations) → elected ≡ []
     → IsUnsealedMade (record { number = number; name = name; seats = seats; standing = standing; is_contested = false; elected = map elected_shown elected })
 unsealed_listed number seats name is_keying standing elected so none =
     let listed_so : WardStanding → List (ℕ × String Global) → ListedEntry =

@@ -1,6 +1,6 @@
 //! What is wrong with the files of a folder, a line for each file.
 //!
-//! No clause says how a line reads: what matters is that there are lines unless the folder is confirmed.
+//! Nothing guarantees how a line reads. What matters is that there are lines unless the folder is confirmed.
 
 use crate::differences::first_difference;
 use crate::folder_comparison::is_named;

@@ -1,6 +1,6 @@
 //! The page of all wards, read for what no other file of a folder has: the title, and the wards that aren't sealed.
 //!
-//! Whatever is read here is confirmed later, since the page is made again from it and compared. So no clause says how it is read.
+//! Whatever is read here is confirmed later, since the page is made again from it and compared. So nothing is guaranteed of how it is read.
 
 use sheet::WardStanding;
 use std::alloc::{AllocError, Global};

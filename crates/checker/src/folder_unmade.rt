@@ -1,6 +1,6 @@
 //! What is wrong with a folder whose files can't be made again: the sums of its files, and the reason.
 //!
-//! No clause says how a line reads, as for the other faults of a folder.
+//! Nothing guarantees how a line reads, as for the other faults of a folder.
 
 use crate::folder_election::{MakeFault, ballots_name};
 use crate::folder_faults::{SUMS, push_line, push_sum_fault, push_unread, sums_in};
