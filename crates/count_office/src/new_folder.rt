@@ -7,7 +7,8 @@ ghost use Rattle.std.specs.Prelude.{◌≡◌, IfErr, None};
 ghost use Rattle.desk.specs.Publications.{folder_failure};
 ghost use Rattle.desk.specs.declared.publishing.FolderFault.{FolderFault};
 
-use crate::moved_note::flush_folder;
+use crate::path_note::flush_folder;
+use crate::path_state::is_reserved;
 use desk::{Failure, FolderFault, PublicFolder};
 use std::fs::{self, DirBuilder, File, OpenOptions, Permissions};
 use std::io::{self, ErrorKind, Write};
@@ -84,14 +85,18 @@ fn write_public(rt: &HostRuntime, path: &str, text: &str) -> io::Result<()> {
 }
 
 impl<'a> NewFolder<'a> {
-    /// Makes an unfinished folder next to a path where nothing exists. If something already exists there (`CopyTaken`), or the
-    /// unfinished folder can't be made, such as after a stop that left one (`CopyFailed`), nothing is left behind.
+    /// Makes an unfinished folder next to a path where nothing exists. If something already exists there (`CopyTaken`), if the name may
+    /// be that of a file of an office, or if the unfinished folder can't be made, such as after a stop that left one (`CopyFailed`),
+    /// nothing is left behind.
     pub fn make(rt: &'a HostRuntime, path: &str) -> Result<NewFolder<'a>, Failure>
         ensures { IfErr result (λ failure. (fault : FolderFault) × (failure ≡ folder_failure fault)) }
     {
         let path = path.trim_end_matches('/');
         if let Err(fault) = has_none(rt, path) {
             return Err(failure_of(fault));
+        }
+        if is_reserved(path) {
+            return Err(failure_of(FolderFault::Unwritten));
         }
         match NewFolder::begin(rt, path) {
             Ok(folder) => Ok(folder),
@@ -154,8 +159,7 @@ impl<'a> NewFolder<'a> {
 
     /// Takes its name from the folder again, if it has it. Returns whether the folder is unfinished then.
     fn take_name(&self) -> bool {
-        !self.is_named
-            || fs::rename(self.rt, self.path.as_str(), self.unfinished.as_str()).is_ok()
+        !self.is_named || fs::rename(self.rt, self.path.as_str(), self.unfinished.as_str()).is_ok()
     }
 
     /// Removes the folder and the files that were put into it, unless it was published. If it has its name already, it loses that

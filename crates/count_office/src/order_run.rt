@@ -58,9 +58,10 @@ fn note_unrecorded(place: LockedDatabase<'_>, order: &Order<'_>) {
     }
 }
 
-/// Removes the note that the office in a locked database is served with a second record, if it was served and that has ended by itself.
+/// Removes the note that the office in a locked database is served with a second record, if it was served with one and that has ended by
+/// itself.
 fn forget_if_ended(place: LockedDatabase<'_>, status: u8) {
-    if status == 0 && place.succession.is_open.get() {
+    if status == 0 && place.second.is_some() && place.succession.is_open.get() {
         forget_recording(place.rt, place.found.database());
     }
 }

@@ -44,9 +44,26 @@ const LOG: &str = "-wal";
 
 const JOURNAL: &str = "-journal";
 
+/// More endings of names that belong to an office: of its socket, of its other note, of notes that are being written, and of a file that
+/// other programs using SQLite create.
+const MORE_ENDINGS: [&str; 5] = [
+    "-serve",
+    "-recording",
+    "-recording-unfinished",
+    "-moved-unfinished",
+    "-shm",
+];
+
 /// Returns whether `sqlite` treats a name as something other than a file.
 pub fn is_no_file(path: &str) -> bool {
     path == ":memory:" || path.starts_with("file:")
+}
+
+/// Returns whether a name is that of something other than a file, or of a file that may belong to an office.
+pub fn is_reserved(path: &str) -> bool {
+    is_no_file(path)
+        || ENDINGS.iter().any(|ending| path.ends_with(*ending))
+        || MORE_ENDINGS.iter().any(|ending| path.ends_with(*ending))
 }
 
 /// Returns the length of the file at a path; `None` if there is no file. Fails if it can't be examined.

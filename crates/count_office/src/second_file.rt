@@ -7,7 +7,7 @@ ghost use Rattle.std.specs.Prelude.{None, ⊤};
 
 use crate::codes_file::write_new;
 use crate::path_note::flush_folder;
-use crate::path_state::{ENDINGS, is_no_file};
+use crate::path_state::is_reserved;
 use desk::DurableSink;
 use std::fs::{self, File, OpenOptions};
 use std::io::{self, ErrorKind, Read, Seek, SeekFrom, Write};
@@ -16,16 +16,6 @@ use streams::Broken;
 
 /// The permission bits that let the group and others write to a file.
 const WRITING_BY_OTHERS: u32 = 0o022;
-
-/// More endings of names that belong to an office: of its socket, of its other note, of notes that are being written, and of a file that
-/// other programs using SQLite create.
-const MORE_ENDINGS: [&str; 5] = [
-    "-serve",
-    "-recording",
-    "-recording-unfinished",
-    "-moved-unfinished",
-    "-shm",
-];
 
 /// The reason why a file can't be used as a second record.
 #[derive(Clone, Copy, Debug, PartialEq, Eq, Drop)]
@@ -77,13 +67,6 @@ fn fault_in_making(error: &io::Error) -> SecondFault {
         ErrorKind::AlreadyExists => SecondFault::Taken,
         _ => SecondFault::Unwritten,
     }
-}
-
-/// Returns whether a name is that of something other than a file, or of a file that may belong to an office.
-fn is_reserved(path: &str) -> bool {
-    is_no_file(path)
-        || ENDINGS.iter().any(|ending| path.ends_with(*ending))
-        || MORE_ENDINGS.iter().any(|ending| path.ends_with(*ending))
 }
 
 /// Flushes the name of a file to the disk.
