@@ -94,7 +94,7 @@ pub fn tell_if_unrecorded(rt: &HostRuntime, database: &str) {
         let mut stderr = rt.stderr();
         let _ = writeln!(
             stderr,
-            "note: this office was served with the second record {record}, which lacks what is done without --second; to keep it no longer, delete {database}{RECORDING}"
+            "note: this office was served with the second record {record}, which lacks what is done without --second; to stop keeping it, delete {database}{RECORDING}"
         );
     }
 }
