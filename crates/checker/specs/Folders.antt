@@ -131,7 +131,7 @@ election_of title wards = record { title = title; index = index title (map liste
 
 -- ---- the folder
 
--- The files are those of a published election: there are a title, and wards in the order of their numbers, such that each sealed ward is counted from its ballots, and all files are those
+-- The files are those of a published election: there are a title, and wards in the order of their numbers, of which each sealed one is counted from its ballots. All files are those
 -- that are published of these wards under this title.
 pub record IsPublishedFolder (files : List FileEntry) : Type 0 where
   pub title : Text

@@ -17,7 +17,7 @@ use std::alloc::{AllocError, Global};
 pub enum FolderChecked {
     /// The folder has exactly the files that are published of the election that its ballots give; `files` is their number.
     Confirmed { files: usize },
-    /// It hasn't, or this can't be told. There is a line for each file that isn't right, and one for the reason why no ward was
+    /// It hasn't, or that isn't known. There is a line for each file that isn't right, and one for the reason why no ward was
     /// counted, if none was.
     Differs { lines: String },
 }

@@ -37,8 +37,8 @@ const PAUSE: u64 = 10;
 /// The number of pauses after which the program tells a person at a terminal what the order is waiting for.
 const PAUSES_UNSEEN: u32 = 50;
 
-/// An order, its words starting with DB, the path of its database, and that of a second record, which is empty if there is none; whether the database is
-/// that of a new office that takes the place of one that was served, and what is left of that one.
+/// An order, its words starting with DB, the path of its database, and that of a second record, which is empty if there is none. Also
+/// whether the database is that of a new office that takes the place of one that was served, and what is left of that one.
 #[derive(Clone, Copy)]
 pub struct OrderRun<'a> {
     pub rt: &'a HostRuntime,

@@ -18,8 +18,7 @@ use office::Office;
 use sqlite::{Alter, Connection};
 use streams::Sink;
 
-/// Publishes the results of an open office, which stays open and is only read, in a folder at the path that the order names, where
-/// nothing exists yet. If the folder isn't published, nothing is left there.
+/// Publishes the results of an open office, which stays open and is only read, in a new folder at the path that the order names. If the folder isn't published, nothing is left there.
 pub fn publish_served<S: Alter, O: Sink, E: Sink>(
     rt: &HostRuntime,
     office: &mut Office<S>,
