@@ -173,7 +173,7 @@ def manual_pages(office, orders, check, script, **fields):
     """Returns {path: text} of the manual pages of the program, checks, counts and the script, with version and date."""
     told, found, lan = (sections(said(program, "--help")) for program in (office, check, script))
     counted = sections(said(check, "--count", "--help"))
-    words, statuses = found["Arguments"].split("\n\n")
+    words, _, statuses = found["Arguments"].partition("\n\n")
     count_options, count_statuses = counted["Options"].split("\n\n")
     about, sample = lan[""].replace(":", ".").split("\n")
     options, does, lan_statuses = lan["Options"].split("\n\n")

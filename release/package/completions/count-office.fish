@@ -16,7 +16,7 @@ function __count_office_counts -d 'Whether ballots are counted'
     set -l words (commandline -opc)
     test (count $words) -ge 3; and test "$words[2]" = -; and test "$words[3]" = count
 end
-complete -c count-office -n '__count_office_words 2; and __count_office_checks' -f -a check -d 'Check a sheet against its ballots'
+complete -c count-office -n '__count_office_words 2; and __count_office_checks' -f -a check -d 'Check a published folder, or a sheet against its ballots'
 complete -c count-office -n '__count_office_words 2; and __count_office_checks' -f -a count -d 'Count ballots'
 # COUNT_OPTIONS
 # ORDERS
