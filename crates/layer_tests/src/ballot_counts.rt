@@ -87,14 +87,16 @@ const TABLE: &str =
 "#;
 
 /// The result of that ward as JSON.
-const RESULTS: &str = r#"{"ward":7,"name":"Harbour","seats":2,"declared":true,"contested":true,"valid":9,"rejected":[0,0,0,0,0],"quota":"4.00000","candidates":[{"number":1,"name":"Ann","elected":true,"elected_at":1,"excluded_at":null},{"number":2,"name":"Bob","elected":false,"elected_at":null,"excluded_at":3},{"number":3,"name":"Cy","elected":true,"elected_at":3,"excluded_at":null}],"stages":[{"stage":1,"action":"first preferences","of":null,"votes":["6.00000","1.00000","2.00000"],"non_transferable":"0.00000","lost":"0.00000"},{"stage":2,"action":"surplus","of":1,"votes":["4.00000","2.33332","2.66666"],"non_transferable":"0.00000","lost":"0.00002"},{"stage":3,"action":"exclusion, last vacancies","of":2,"votes":["4.00000","2.33332","2.66666"],"non_transferable":"0.00000","lost":"0.00002"}],"lots":[]}
+const RESULTS: &str =
+    r#"{"ward":7,"name":"Harbour","seats":2,"declared":true,"contested":true,"valid":9,"rejected":[0,0,0,0,0],"quota":"4.00000","candidates":[{"number":1,"name":"Ann","elected":true,"elected_at":1,"excluded_at":null},{"number":2,"name":"Bob","elected":false,"elected_at":null,"excluded_at":3},{"number":3,"name":"Cy","elected":true,"elected_at":3,"excluded_at":null}],"stages":[{"stage":1,"action":"first preferences","of":null,"votes":["6.00000","1.00000","2.00000"],"non_transferable":"0.00000","lost":"0.00000"},{"stage":2,"action":"surplus","of":1,"votes":["4.00000","2.33332","2.66666"],"non_transferable":"0.00000","lost":"0.00002"},{"stage":3,"action":"exclusion, last vacancies","of":2,"votes":["4.00000","2.33332","2.66666"],"non_transferable":"0.00000","lost":"0.00002"}],"lots":[]}
 "#;
 
 /// Two candidates for three seats, and no papers; a name with a quotation mark, a backslash and a tab.
 const HOSTILE: &str = "2 3\n0\n\"A\\\"n\\\\n\"\n\"B\tob\"\n\"Harbour\"\n";
 
 /// Its result as JSON.
-const HOSTILE_RESULTS: &str = r#"{"ward":1,"name":"Harbour","seats":3,"declared":true,"contested":false,"valid":null,"rejected":null,"quota":null,"candidates":[{"number":1,"name":"A\"n\\n","elected":true,"elected_at":null,"excluded_at":null},{"number":2,"name":"B\tob","elected":true,"elected_at":null,"excluded_at":null}],"stages":[],"lots":[]}
+const HOSTILE_RESULTS: &str =
+    r#"{"ward":1,"name":"Harbour","seats":3,"declared":true,"contested":false,"valid":null,"rejected":null,"quota":null,"candidates":[{"number":1,"name":"A\"n\\n","elected":true,"elected_at":null,"excluded_at":null},{"number":2,"name":"B\tob","elected":true,"elected_at":null,"excluded_at":null}],"stages":[],"lots":[]}
 "#;
 
 /// Two candidates for three seats, and no papers.
@@ -202,8 +204,22 @@ fn refuses(
     Ok(())
 }
 
-/// Checks that the page of the given ballots has its title, and whether it says that the result is declared.
-fn shows_page(rt: &(impl Abort + AllocGlobal), ballots: &str, declared: bool) -> Result<(), Fail> {
+/// The surpluses on the page of `BALLOTS`, and on one without any.
+const SURPLUSES: &str = r##"<h2>Surpluses</h2>
+<ul>
+<li>Stage 2, surplus of 1 <bdi>Ann</bdi>, 2.00000 of 6.00000 votes: 6 papers received at 1.00000 pass on at 0.33333.</li>
+</ul>
+"##;
+
+const NO_SURPLUS: &str = "<h2>Surpluses</h2>\n<p>No surplus was transferred.</p>\n";
+
+/// Checks that the page of the given ballots has its title and the given surpluses, and whether it says that the result is declared.
+fn shows_page(
+    rt: &(impl Abort + AllocGlobal),
+    ballots: &str,
+    declared: bool,
+    surpluses: &str,
+) -> Result<(), Fail> {
     let text = CountText::Page("A <title>");
     let page = counted(rt.alloc(), ballots, &[], &text)?;
     assert!(rt; page.text.as_str().starts_with("<!DOCTYPE html>\n"));
@@ -213,6 +229,7 @@ fn shows_page(rt: &(impl Abort + AllocGlobal), ballots: &str, declared: bool) ->
             .contains("<p class=\"title\" dir=\"auto\">A &lt;title&gt;</p>\n")
     );
     assert!(rt; page.text.as_str().contains("<strong>Declared</strong>") == declared);
+    assert!(rt; page.text.as_str().contains(surpluses));
     Ok(())
 }
 
@@ -421,7 +438,7 @@ fn ballots_are_counted(rt: HostRuntime) -> Result<(), Fail> {
     for case in &NOT_COUNTED {
         refuses(&rt, case)?;
     }
-    shows_page(&rt, BALLOTS, true)?;
-    shows_page(&rt, TIED, false)?;
+    shows_page(&rt, BALLOTS, true, SURPLUSES)?;
+    shows_page(&rt, TIED, false, NO_SURPLUS)?;
     counts_records(&rt)
 }

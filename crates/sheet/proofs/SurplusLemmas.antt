@@ -38,6 +38,7 @@ more_at groups more k (Some g) is = by (g.received == more.received)
   where
     grown : PassedOn
     grown = record g { papers = g.papers + more.papers }
+
     by : (b : Bool) → papers_in (cond b (slice_set groups k grown) (insert groups k more)) ≡ papers_in groups + more.papers
     by true =
         omega (arith, sum_by-set (λ (x : PassedOn). x.papers) groups k grown g (within_get groups k g is), ap (λ (x : PassedOn). x.papers) (get_or_from_slice_get groups k g g is))
@@ -68,7 +69,7 @@ held_all : (contest : Contest) (old : History) (s : Stage) (c : ℕ) (groups : L
 held_all contest old s c groups [] is = refl
 held_all contest old s c groups (b ∷ bundles) is =
     ap (λ (now : List PassedOn). all_placed (of_surplus contest old c) now (map (λ (b : Bundle). placed (place contest old b.0)) bundles)
-        (map (λ (b : Bundle). placed (place contest (s ∷ old) b.0)) bundles) bundles) (held contest old s c b.1 groups b.0 is)
+    (map (λ (b : Bundle). placed (place contest (s ∷ old) b.0)) bundles) bundles) (held contest old s c b.1 groups b.0 is)
     ∙ held_all contest old s c (with_held contest old c b.1 groups (place contest old b.0)) bundles is
 
 some_alike : (a b : Action) → Some a ≡ Some b → a ≡ b

@@ -6,10 +6,13 @@ ghost use Rattle.count.specs.Advance.{Advances};
 ghost use Rattle.count.specs.Bundles.{papers_of};
 ghost use Rattle.count.specs.Law.Contest.{contest_for, IsContest, newest_votes as newest_votes_of};
 ghost use Rattle.count.specs.Law.Due.{drawn, due_after, lot_for};
-ghost use Rattle.sheet.specs.Surpluses.{AdvancesIfDue, all_held, all_placed as all_placed_in, count_above as count_above_in, papers_in, passed_next, surplus_by as surplus_by_action, surpluses_of as surpluses_in, with_papers, with_placed};
+ghost use Rattle.sheet.specs.Surpluses.{AdvancesIfDue, all_held, all_placed as all_placed_in, count_above as count_above_in, papers_in, passed_next};
+ghost use Rattle.sheet.specs.Surpluses.{surplus_by as surplus_by_action, surpluses_of as surpluses_in, with_papers, with_placed};
 
 use crate::stage::votes_of;
-use count::{Action, BundleBook, Bundles, CountBook, Placed, Stage, bundles_can_be_counted, count_to};
+use count::{
+    Action, BundleBook, Bundles, CountBook, Placed, Stage, bundles_can_be_counted, count_to,
+};
 use paper::Columns;
 use std::alloc::{AllocError, Global};
 use votes::{Votes, quota};
@@ -38,7 +41,10 @@ fn count_above(groups: &[PassedOn], value: Votes) -> usize
     ensures is { result ≡ count_above_in groups.now value }
     ensures within { result ≤ length groups.now }
 {
-    groups.iter().take_while(|group| value.units() < group.received.units()).count()
+    groups
+        .iter()
+        .take_while(|group| value.units() < group.received.units())
+        .count()
 }
 
 /// Returns a group with more papers.
@@ -133,7 +139,9 @@ fn all_placed(
 fn lot_at(lots: &[(u8, u8)], stage: u64) -> Option<u8>
     ensures { result ≡ lot_for lots.now stage }
 {
-    lots.iter().find(|lot| u64::from(lot.0) == stage).map(|lot| lot.1)
+    lots.iter()
+        .find(|lot| u64::from(lot.0) == stage)
+        .map(|lot| lot.1)
 }
 
 /// Returns the given candidate's votes after the newest stage; 0 before the first.

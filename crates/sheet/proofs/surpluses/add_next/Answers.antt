@@ -17,5 +17,5 @@ returns-in_ok-groups-in-Some-clause-is c =
     let lot = lot_here c.args.lots.now c.lot_at-lot.result c.stages.result.now old (length c.stages.result.now + 1) c.stages.ensures.is refl c.lot_at-lot.ensures in
     let next = next_drawn contest c.args.lots.now old c.lot_at-lot.result (Some c.in-Ok.action) lot c.in-Ok.ensures.ok in
     appended_ok c.append.result _ _ _ _ c.append.ensures.items
-        (passed_surplus contest c.args.lots.now c.args.bundles.now old c.args.found.now.items c.in_ok-groups-in-Some.groups.items c.in-Ok.action c.in-Some.c next
-            (sym c.surplus_by.ensures ∙ c.in-Some.is) c.in_ok-groups-in-Some.ensures.is)
+    (passed_surplus contest c.args.lots.now c.args.bundles.now old c.args.found.now.items c.in_ok-groups-in-Some.groups.items c.in-Ok.action c.in-Some.c next
+    (sym c.surplus_by.ensures ∙ c.in-Some.is) c.in_ok-groups-in-Some.ensures.is)

@@ -12,4 +12,4 @@ returns-clause-few c =
     let of : PassedOn = c.args.of.now in
     let more : PassedOn = record of { papers = c.args.papers; received = c.args.at.now.value; passed = c.args.to.now.value } in
     on_ok_weaker c.add_papers.result (λ (is : c.add_papers.new.groups.items ≡ with_papers old more). omega (arith, ap (λ (l : List PassedOn). papers_in l) is, papers_in_more old more))
-        c.add_papers.ensures
+    c.add_papers.ensures

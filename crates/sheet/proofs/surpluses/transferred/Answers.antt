@@ -25,6 +25,6 @@ returns-clause-is c =
     let here = c.places.ensures.bundles bundles c.len.ensures.bundles alike in
     let later = c.places-2.ensures.bundles bundles c.len.ensures.bundles (subst (λ (k : Contest). IsPermutation (papers_of bundles) k.papers) (sym c.advance.ensures.same) alike) in
     IfOk-weaker c.all_placed.result _ _
-        (λ groups is. is ∙ all_are contest c.advance.new.book.contest old c.advance.new.book.history _ c.args.c c.args.lot bundles c.args.book.now.bundles c.advance.new.book.bundles _ _ of
-            c.advance.ensures.same c.requires.due c.in_ok-advance.ensures.ok here later (search rules) c.places-2.ensures.places)
-        c.all_placed.ensures
+    (λ groups is. is ∙ all_are contest c.advance.new.book.contest old c.advance.new.book.history _ c.args.c c.args.lot bundles c.args.book.now.bundles c.advance.new.book.bundles _ _ of
+    c.advance.ensures.same c.requires.due c.in_ok-advance.ensures.ok here later (search rules) c.places-2.ensures.places)
+    c.all_placed.ensures
