@@ -201,7 +201,7 @@ surplus_settled contest s before c d tie known top is =
     let also : nat_lt contest.quota (newest_votes stages d) ≡ true = ap (nat_lt contest.quota) (sym is.level) ∙ more in
     let elected : is_elected contest stages d ≡ true = reached-elected contest stages d (above-reached contest s before d (ltb-true _ _ also)) in
     let here : In d group = filter-in d (λ x. nat_lt contest.quota (newest_votes stages x)) (elected_after contest stages) also
-        (filter-in d (is_elected contest stages) contest.candidates elected known) in
+    (filter-in d (is_elected contest stages) contest.candidates elected known) in
     let figures = settles stages c d is.named.stage is.named.found in
     omega (arith, figures.over (any_false (λ y. is_above stages y c) d group none here), is.named.chosen, is.named.other)
 
@@ -270,6 +270,6 @@ settled_on_a_page contest handed s (t ∷ before) c d tie fair right on known is
       | inr bottom ↦
           let same : bottom.candidate ≡ c = some_is (sym (excluded_named _ bottom.candidate) ∙ ap candidate_of (sym bottom.is) ∙ on) in
           let fewer = exclusion_settled contest handed t before c d tie fair right.0 known unfilled (subst (λ e. In e (lowest stages (continuing_after contest stages))) same bottom.in_group)
-              figures in
+          figures in
           subst (λ a. IsSettled a tie) (sym bottom.is) (excluded_by _ bottom.candidate tie fewer)
     ]

@@ -19,9 +19,9 @@ returns-in_err-write_empty_seats g c =
     let r = c.from_residual-in_err-write_empty_seats.result in
     let failure = c.from_residual-in_err-write_empty_seats.ensures.0 in
     Writes-front _ r failure (Writes-failed r failure (Writes-then _ (Writes-then _ c.in_ok-write_row_opening.ensures (rw c.deref.ensures.value at c.in_ok-write_elected_names.ensures))
-        (rw c.empty_in.ensures at c.in_err-write_empty_seats.ensures)))
+    (rw c.empty_in.ensures at c.in_err-write_empty_seats.ensures)))
 
 pub returns : goal.returns
 returns g c =
     Writes-then _ (Writes-then _ (Writes-then _ c.in_ok-write_row_opening.ensures (rw c.deref.ensures.value at c.in_ok-write_elected_names.ensures))
-        (rw c.empty_in.ensures at c.in_ok-write_empty_seats.ensures)) c.write_line.ensures
+    (rw c.empty_in.ensures at c.in_ok-write_empty_seats.ensures)) c.write_line.ensures

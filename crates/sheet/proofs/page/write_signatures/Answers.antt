@@ -19,7 +19,7 @@ returns-in_err-write_empty_seats g c =
     let r = c.from_residual-in_err-write_empty_seats.result in
     let failure = c.from_residual-in_err-write_empty_seats.ensures.0 in
     Writes-front _ r failure (Writes-failed r failure (Writes-then _ (Writes-then _ c.in_ok-write_line.ensures c.in_ok-write_elected_items.ensures)
-        (rw c.left_in.ensures at c.in_err-write_empty_seats.ensures)))
+    (rw c.left_in.ensures at c.in_err-write_empty_seats.ensures)))
 
 pub returns : goal.returns
 returns g c =
