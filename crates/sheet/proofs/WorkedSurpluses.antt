@@ -1,5 +1,5 @@
 -- The surpluses on a page, worked through: the ward of the stage sheet in the documents; then a ward in which the candidate of a later surplus holds papers of two values.
-use Rattle.std.proofs.Common.{◌≡◌, ℕ, List, [], ◌∷◌, None, codes, refl}
+use Rattle.std.proofs.Common.{◌≡◌, List, [], ◌∷◌, None, codes, refl}
 use Rattle.std.specs.Fmt.{digits}
 use Rattle.count.specs.Bundles.{Bundle}
 use Rattle.count.specs.Law.Count.{stages_to}

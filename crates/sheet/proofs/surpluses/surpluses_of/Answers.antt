@@ -1,5 +1,5 @@
 -- Proof that `surpluses_of` meets its contract.
-use Rattle.std.proofs.Common.{◌≡◌, ℕ, List, ap, ◌∙◌, sym, subst, arith, refl}
+use Rattle.std.proofs.Common.{◌≡◌, ℕ, ap, ◌∙◌, sym, subst, arith}
 use Rattle.votes.specs.Units.{quota_of}
 use Rattle.count.specs.Books.{BundledBook}
 use Rattle.count.specs.Bundles.{papers_of}

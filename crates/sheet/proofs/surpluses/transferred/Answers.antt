@@ -1,12 +1,11 @@
 -- Proof that `transferred` meets its contract.
-use Rattle.std.proofs.Common.{rules, ◌≡◌, ◌+◌, ap, ◌∙◌, sym, subst, map, length, List, arith}
+use Rattle.std.proofs.Common.{rules, ◌≡◌, ◌+◌, ap, ◌∙◌, sym, subst, length, List, arith}
 use Rattle.std.proofs.lemmas.Result.{IfOk-weaker}
 use Rattle.std.proofs.lemmas.List.Sorted.{IsPermutation-refl}
 use Rattle.std.specs.List.Sorted.{IsPermutation}
-use Rattle.count.specs.Books.{placed}
 use Rattle.count.specs.Bundles.{Bundle, papers_of}
 use Rattle.count.specs.Law.Contest.{Contest, History, newest_votes}
-use Rattle.count.specs.Law.Places.{place, surplus_of}
+use Rattle.count.specs.Law.Places.{surplus_of}
 use Rattle.sheet.proofs.SurplusLemmas.{all_are, number_here, surplus_is}
 use Rattle.sheet.proofs.surpluses.transferred.Goals as goal
 
