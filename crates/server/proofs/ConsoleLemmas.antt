@@ -12,19 +12,23 @@ use Rattle.desk.specs.declared.lines.Failure.TheVariants.{Office}
 use Rattle.wire.specs.ConsoleOrders.{ConsoleOrderEntry}
 use Rattle.wire.specs.Gates.{HttpSettingsEntry}
 use Rattle.wire.specs.Parsing.{IsParsed}
-use Rattle.wire.specs.Requests.{HttpRequestEntry, Asks, asked_by, console, denied, keying, order, public, reading, shown}
+use Rattle.wire.specs.Requests.{HttpRequestEntry, Asks, asked_by, console, denied, http_request_entry, keying, order, public, reading, shown}
 use Rattle.wire.specs.Responses.{fault_response, order_response}
 use Rattle.wire.specs.Serving.{IsPut, IsServed}
 use Rattle.wire.specs.Told.{IsTold, IsWritten}
+use Rattle.wire.specs.declared.console_order.ConsoleOrder.{ConsoleOrder}
 use Rattle.wire.specs.declared.parsed.Parsed.{Parsed}
 use Rattle.wire.specs.declared.parsed.Parsed.TheVariants as parsed
+use Rattle.wire.specs.declared.request.HttpRequest.{HttpRequest}
+use Rattle.wire.specs.declared.request.HttpRequest.TheVariants as variant
+use Rattle.wire.specs.declared.request.Keying.{Keying}
 use Rattle.wire.specs.declared.request_error.RequestError.TheVariants.{BadRequest}
 use Rattle.wire.specs.declared.response.Response.{Response}
 use Rattle.wire.proofs.ParsedLemmas.{none_came}
 use Rattle.wire.proofs.RequestLemmas.{AsksOneThing-all}
 use Rattle.server.specs.ConsoleOrders.{FollowsConsole, FollowsEntry, HasPrinted, IsInResponse, printed_response}
 use Rattle.server.specs.Endings.{EndsIn}
-use Rattle.server.specs.Exchanges.{AsksNoOrder, ServesAsked, Exchange}
+use Rattle.server.specs.Exchanges.{AsksNoOrder, ChangesNothing, ServesAsked, Exchange}
 use Rattle.codes.specs.RateLimits.{LimitEntry}
 use Rattle.server.specs.Reads.{MemoryEntry, ReadEntry, ServedOffice, served_office}
 use Rattle.server.specs.RecordChanges.{RecordChange, ServedView, change_in}
@@ -50,6 +54,17 @@ pub asks_no_order : (settings : HttpSettingsEntry) (got : List ℕ) (what : Http
 asks_no_order settings got what asks other entry its =
     let one : what ≡ order entry = AsksOneThing-all settings got what (order entry) asks its in
     true≢false (sym (ap is_order one) ∙ other)
+
+-- a request that is neither a keying nor an order
+pub changes_nothing : (asked : HttpRequest) → ((k : Keying) → asked ≡ variant.Keying k → ⊥) → ((its : ConsoleOrder) → asked ≡ variant.Order its → ⊥)
+    → ChangesNothing (http_request_entry asked) × (is_order (http_request_entry asked) ≡ false)
+changes_nothing (variant.Denied why) no_keying no_order = (tt, refl)
+changes_nothing (variant.ClerkPage clerk show) no_keying no_order = (tt, refl)
+changes_nothing (variant.Keying k) no_keying no_order = absurd (no_keying k refl)
+changes_nothing (variant.Resource what) no_keying no_order = (tt, refl)
+changes_nothing (variant.ConsolePage show) no_keying no_order = (tt, refl)
+changes_nothing (variant.Order its) no_keying no_order = absurd (no_order its refl)
+changes_nothing (variant.Public its what) no_keying no_order = (tt, refl)
 
 -- what is requested is an order, or it isn't
 asks_order_or_not : (settings : HttpSettingsEntry) (got : List ℕ) (what : HttpRequestEntry) → Asks settings got what

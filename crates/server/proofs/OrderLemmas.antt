@@ -1,5 +1,6 @@
 -- How an order is processed, step by step.
-use Rattle.std.proofs.Common.{◌≡◌, ◌∙◌, ◌⊎◌, ◌∷◌, ⊤, Bool, true, false, true≢false, tt, ℕ, List, [], None, Bor, Option, Some, ap, drop, inl, inr, map, refl, subst, sym}
+use Rattle.std.proofs.Common.{◌≡◌, ◌∙◌, ◌⊎◌, ◌∷◌, Bool, true, false, true≢false, ℕ, List, [], None, Bor, Option, Some, ap, drop, inl, inr, map, refl, subst, sym}
+use Rattle.std.specs.Prelude.{⊤}
 use Rattle.std.specs.Io.KnownBytes.{Appends}
 use Rattle.std.specs.List.{list_all}
 use Rattle.std.specs.Str.{is_utf8}

@@ -4,8 +4,8 @@ use Rattle.wire.specs.Gates.{HttpSettingsEntry, settings_entry}
 use Rattle.server.specs.declared.server_settings.FileNumbers.{FileNumbers}
 use Rattle.server.specs.declared.server_settings.ServerSettings.{ServerSettings}
 
--- the settings: for clients, the origin of a proxy, the gate, and what is shown in public; the file of the office; whether the file is permanently known to be
--- whole, or known not to be; and whether the office has a second record
+-- The settings: for clients, the origin of a proxy, the gate, and what is shown in public; and the file of the office. Also whether the file is permanently known to be
+-- whole, or known not to be, and whether the office has a second record.
 pub record ServerSettingsEntry : Type 0 where
   pub clients : HttpSettingsEntry
   pub file : FileNumbers

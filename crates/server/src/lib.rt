@@ -6,10 +6,10 @@
 //! client's request from its parsed head and the bytes received, an order from its message. So no connection waits for the
 //! stream of another, and the office does one thing at a time.
 //!
-//! A keying passes from [`serve_connections`] to the office through `serve_rounds`, `service_ready`, `service_one`,
-//! [`service`], `answer_client`, `answer_request`, `answer_clerk` and [`wire::handle_keying`]. `end_round` does the rest of a
-//! round. An order from the console takes the same path; `answer_console` then carries it out like an order that is handed over,
-//! and its output is returned in one response.
+//! A keying passes from [`serve_recorded`] to the office through `serve_rounds`, `service_ready`, `service_one`, [`service`],
+//! `answer_client`, `answer_request` and [`wire::handle_keying`]. `end_round` does the rest of a round. An order from the console
+//! takes the same path; `answer_console` then carries it out like an order that is handed over, and its output is returned in one
+//! response.
 //!
 //! [`serve_recorded`] also records each request that the office accepts, before it is acknowledged, through a
 //! [`Recorder`](desk::Recorder). `specs/RecordChanges.antt` defines what is known of the record.

@@ -26,9 +26,9 @@ pub struct Destination<'a> {
     pub path: &'a str,
 }
 
-/// The file of the office that is served. It copies the open office to a new file, prints its journal, makes another office from that
-/// journal in a new file, and publishes its results in a new folder; and it compares the office with a second record of it, and says where the office's own is. The office
-/// stays open and is only read. The implementing program chooses the files.
+/// The file of the office that is served. It copies the open office to a new file, prints its journal, makes another office from
+/// that journal in a new file, and publishes its results in a new folder. It also compares the office with a second record of it,
+/// and says where the office's own record is. The office stays open and is only read. The implementing program chooses the files.
 pub trait ServedFile {
     /// Whether the file of the office is permanently known to be whole, or permanently known not to be. Nothing is known about
     /// a real file on this machine.

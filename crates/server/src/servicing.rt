@@ -12,7 +12,7 @@ ghost use Rattle.wire.specs.Responses.{fault_response};
 ghost use Rattle.wire.specs.Serving.{IsPut, IsServed};
 ghost use Rattle.wire.specs.Told.{IsWritten};
 ghost use Rattle.server.specs.RecordChanges.{served_view};
-ghost use Rattle.server.specs.Settings.{ServerSettingsEntry, settings_by};
+ghost use Rattle.server.specs.Settings.{settings_by};
 ghost use Rattle.server.specs.Servicing.{Services, IsCompleteFor, FailsOnlyAsLost, IsSameClient, HasSentNothing, answer_of};
 ghost use Rattle.office.specs.Answers.{IsReadAt, WhenOpenAt};
 ghost use Rattle.wire.specs.Requests.{Asks, http_request_entry, reading};
@@ -37,8 +37,8 @@ use sqlite::Alter;
 use std::alloc::Global;
 use streams::Broken;
 use wire::{
-    Completeness, HandledKeying, HttpRequest, HttpSettings, Keying, MAX_HEAD_BYTES, Parsed,
-    Resource, Response, Routes, Served, handle_keying, parse, respond, write_gone_response,
+    Completeness, HandledKeying, HttpRequest, HttpSettings, MAX_HEAD_BYTES, Parsed, Resource,
+    Response, Routes, Served, handle_keying, parse, respond, write_gone_response,
     write_no_memory_response, write_response, write_unrecorded_response, write_wait_response,
 };
 
@@ -185,38 +185,25 @@ fn written(alloc: Global, response: &Response) -> PendingResponse
     }
 }
 
-/// Returns the response to a clerk's keying, which is sent to the office; none of the response has been sent yet. A keying that the
-/// office accepts is recorded. If recording it fails, it remains in effect, but the response says that it wasn't recorded (112). If
-/// the record has already failed, the response says so too, and the office isn't asked. The cache is emptied.
-fn answer_clerk<S: Alter, R: Recorder>(
-    keying: Keying,
+/// Returns the office's response to a request; none of it has been sent yet, and it isn't cached.
+fn answer_uncached<S: Alter>(
+    alloc: Global,
+    asked: HttpRequest<'_>,
     office: &mut Office<S>,
-    kept: &mut ServerState<R>,
 ) -> PendingResponse
-    ensures served { (settings : ServerSettingsEntry) (number moment : ℕ) (got : List ℕ) → settings.recorded ≡ R.records kept.old.recorder
-        → Asks settings.clients got (http_request_entry (HttpRequest.Keying keying)) → ServesAsked settings (served_view (state S.Store) R.found R.failed)
-        (served_office office.old (memory_entry kept.old))
-        (record { listener = Listener.Clients; number = number; moment = moment; got = got; answer = result.bytes.items }) (served_office office.new (memory_entry kept.new)) }
-    ensures limit { limit_entry kept.new.limit ≡ limit_entry kept.old.limit }
-    ensures same { R.records kept.new.recorder ≡ R.records kept.old.recorder }
+    ensures answers { HasAnswered (state S.Store) office.old (http_request_entry asked.entry) result.bytes.items office.new }
+    ensures only { ChangesNothing (http_request_entry asked.entry) → WhenOpenAt (state S.Store) office.old office.new (λ s. IsReadAt s office.new.closed (state S.Store office.new.held)) }
     ensures untold { result.sent ≡ 0 }
 {
-    kept.reads.empty();
-    if kept.recorder.has_failed() {
-        return unrecorded_response(kept.alloc);
-    }
-    let HandledKeying { response, accepted } = handle_keying(kept.alloc, office, keying);
-    match accepted {
-        None => written(kept.alloc, &response),
-        Some(request) => match kept.recorder.record(&request) {
-            Ok(()) => written(kept.alloc, &response),
-            Err(Broken) => unrecorded_response(kept.alloc),
-        },
-    }
+    let (bytes, _) = response_to(alloc, asked, office);
+    PendingResponse { bytes, sent: 0 }
 }
 
 /// Returns the response to a client that needn't wait, given the bytes received from it; none of the response has been sent yet.
 /// The cache is emptied before a keying or an order, and if an allocation for the request fails.
+///
+/// A keying that the office accepts is recorded. If recording it fails, it remains in effect, but the response says that it wasn't
+/// recorded (112). If the record has already failed, the response says so too, and the office isn't asked.
 fn answer_request<A: ServedFile, S: Alter, R: Recorder>(
     server_settings: ServerSettings<'_, A>,
     parsed: Parsed,
@@ -238,22 +225,19 @@ fn answer_request<A: ServedFile, S: Alter, R: Recorder>(
     };
     match asked {
         HttpRequest::Resource(what) => answer_reading(what, office, kept),
-        HttpRequest::Keying(keying) => answer_clerk(keying, office, kept),
-        HttpRequest::Denied(why) => {
-            let (bytes, _) = response_to(kept.alloc, HttpRequest::Denied(why), office);
-            PendingResponse { bytes, sent: 0 }
-        }
-        HttpRequest::ClerkPage(clerk, show) => {
-            let (bytes, _) = response_to(kept.alloc, HttpRequest::ClerkPage(clerk, show), office);
-            PendingResponse { bytes, sent: 0 }
-        }
-        HttpRequest::ConsolePage(show) => {
-            let (bytes, _) = response_to(kept.alloc, HttpRequest::ConsolePage(show), office);
-            PendingResponse { bytes, sent: 0 }
-        }
-        HttpRequest::Public(shown, what) => {
-            let (bytes, _) = response_to(kept.alloc, HttpRequest::Public(shown, what), office);
-            PendingResponse { bytes, sent: 0 }
+        HttpRequest::Keying(keying) => {
+            kept.reads.empty();
+            if kept.recorder.has_failed() {
+                return unrecorded_response(kept.alloc);
+            }
+            let HandledKeying { response, accepted } = handle_keying(kept.alloc, office, keying);
+            match accepted {
+                None => written(kept.alloc, &response),
+                Some(request) => match kept.recorder.record(&request) {
+                    Ok(()) => written(kept.alloc, &response),
+                    Err(Broken) => unrecorded_response(kept.alloc),
+                },
+            }
         }
         HttpRequest::Order(order) => {
             kept.reads.empty();
@@ -261,6 +245,8 @@ fn answer_request<A: ServedFile, S: Alter, R: Recorder>(
             let response = answer_console(kept.alloc, server_settings, &order, office, recorder);
             written(kept.alloc, &response)
         }
+        // a page, or a rejection: the office stays as it is
+        other => answer_uncached(kept.alloc, other, office),
     }
 }
 

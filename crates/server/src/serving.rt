@@ -395,9 +395,9 @@ fn serve_rounds<D: Network, A: ServedFile, S: Alter, R: Recorder>(
 /// office's state at the beginning. Then whatever a stop leaves of the record leads to the state after the accepted requests of a
 /// prefix, which contains each earlier request, each one that was answered, and at most one more. So the record and the office
 /// differ by at most one request. If recording never failed and the office is still open, the record leads to exactly the office's
-/// state again. Once recording a request has failed, that request isn't acknowledged (112), although it remains
-/// in effect, and no other is sent to the office: a clerk's keying gets 503 with fault 112, and an order for a job prints this
-/// fault. Reads continue. The recorder is returned.
+/// state again. A request whose recording failed isn't acknowledged (112), although it remains in effect. From then on no other is
+/// sent to the office: a clerk's keying gets 503 with fault 112, and an order for a job prints this fault. Reads continue. The
+/// recorder is returned.
 ///
 /// The error says why serving ended early: the network or its clock failed, the table couldn't be allocated, the number of
 /// rounds reached its maximum, or a new office took the place of this one. The last is reported only if the served file says so.

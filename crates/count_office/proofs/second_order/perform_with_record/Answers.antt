@@ -10,13 +10,13 @@ pub returns : goal.returns
 returns g c =
     let told = c.perform_recorded.ensures.headline in
     let failed = has_failed c.perform_recorded.new.recorder in
-    let read = c.open_record-opened.result.1 in
+    let read = c.open_record-conn.result.1 in
     inr (
       read,
       failed,
       told.cut,
       told.page,
-      c.open_record-opened.ensures.reads,
+      c.open_record-conn.ensures.reads,
       λ clean. subst
           (λ (b : Bool). HeadlineRecorded (record { there = true; found_old = λ text. ⊥; found_new = λ text. ⊥; failed_old = b; failed_new = failed }) unknown c.args.asked.task.now
           told.cut told.page c.perform_recorded.result.0 (state g.S.Store read) (state g.S.Store c.perform_recorded.result.1))

@@ -29,12 +29,8 @@ returns-in-Second-clause-did g c =
 pub returns-in-Record-clause-did : goal.returns-in-Record-clause-did
 returns-in-Record-clause-did g c =
     let told = c.tell_record.ensures in
-    record {
-      page = told.page;
-      cut = told.cut;
-      shown = told.shown;
-      is = λ clean is_open s at. rw c.in-Record.is (any_described _ _ _ told.is, record { is_open = is_open; at = at }, refl);
-    }
+    let page = any_described (g.A.ServedFile.described c.args.order.now.served_file.now) (g.R.Recorder.failed c.args.recorder.now) told.page told.is in
+    record { page = told.page; cut = told.cut; shown = told.shown; is = λ clean is_open s at. rw c.in-Record.is (page, record { is_open = is_open; at = at }, refl) }
 
 pub returns-in-Record-clause-recorded : goal.returns-in-Record-clause-recorded
 returns-in-Record-clause-recorded g c = λ asks. c.tell_record.ensures
