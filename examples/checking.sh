@@ -86,6 +86,19 @@ play_input() {
     play - check missing.txt sheet.txt
     play - check ballots.txt "$folder"
 
+    # a folder: what isn't a page of all wards, a link and a folder in it, a file that the sums list as it was, and one that is missing
+    # (examples/publish.sh checks folders that were published)
+    mkdir -p "$folder/published/more"
+    play - check published
+    cp "$folder/ballots.txt" "$folder/published/ward-7-ballots.txt"
+    echo 'page' >"$folder/published/index.html"
+    ln -s ../sheet.txt "$folder/published/ward-7-sheet.txt"
+    (cd "$folder/published" && sha256sum index.html ward-7-ballots.txt >SHA256SUMS)
+    sed -i '2s/4/5/' "$folder/published/ward-7-ballots.txt"
+    echo 'digest  check.html' >>"$folder/published/SHA256SUMS"
+    play - check published
+    play - check missing
+
     # ballots counted: each text, a lot that is needed, and lots that are added
     play - count --help
     play - count ballots.txt

@@ -93,6 +93,8 @@ list_files() {
     office=private_office play town.db publish results --title "Harbour <council>"
     show results
     (cd "$folder/results" && echo "with the title: $(grep -l "Harbour &lt;council&gt;" -- *.html | paste -sd ' ')")
+    play - check early
+    play - check results
 
     # the texts are those of the orders
     for pair in "sheet ward-7-sheet.txt" "table ward-7-table.csv"; do
@@ -108,10 +110,25 @@ list_files() {
     office=mute_office play town.db publish declared --ballots
     show declared
     play - check declared/ward-7-ballots.txt declared/ward-7-sheet.txt
+    play - check declared
 
     # a file that was changed is noticed
+    cp "$folder/declared/ward-7-sheet.txt" "$folder/sheet.txt"
     echo >>"$folder/declared/ward-7-sheet.txt"
     (cd "$folder/declared" && sha256sum --check --quiet SHA256SUMS) 2>&1 || true
+    play - check declared
+
+    # also if its sum was changed with it; or only the sum; and a link, a file that is missing, another one, and ballots that aren't understood
+    (cd "$folder/declared" && sha256sum -- *.html *.txt *.csv *.json >SHA256SUMS)
+    play - check declared
+    cp "$folder/sheet.txt" "$folder/declared/ward-7-sheet.txt"
+    play - check declared
+    rm "$folder/declared/check.html" "$folder/declared/ward-7-table.csv"
+    ln -s ../sheet.txt "$folder/declared/ward-7-table.csv"
+    cp "$folder/sheet.txt" "$folder/declared/notes.txt"
+    play - check declared
+    sed -i '2s/ 0$//' "$folder/declared/ward-7-ballots.txt"
+    play - check declared
 
     # while the office is served, it is published as it is then
     (cd "$folder" && exec "$office" town.db serve "$port") &

@@ -17,4 +17,5 @@ pub mod CandidateLaws
 pub mod CommentLaws
 pub mod ReadBackLaws
 pub mod OwnBallots
+pub mod FolderLemmas
 pub mod WorkedBallots

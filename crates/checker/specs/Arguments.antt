@@ -15,14 +15,16 @@ use Rattle.checker.specs.declared.report.Report.{Report}
 use Rattle.checker.specs.declared.report.Report.TheVariants as report
 use Rattle.checker.specs.declared.problem.BallotsFlaw.{BallotsFlaw}
 use Rattle.checker.specs.declared.problem.Problem.TheVariants as problem
-use Rattle.checker.specs.InputFiles.{InputFiles, Holds, Withholds}
+use Rattle.checker.specs.FolderChecks.{IsFolderChecked}
+use Rattle.checker.specs.InputFiles.{InputFiles, Holds, Withholds, WithholdsNames}
 
 -- ---- the request
 
--- a request: for help on checking; to check a text against ballots, each given by its path; for help on counting; to count ballots; or one that isn't understood
+-- a request: for help on checking; to check a text against ballots, each given by its path; to check a folder; for help on counting; to count ballots; or one that isn't understood
 pub data Request : Type 0 where
   help : Request
   check : Text → Text → Request
+  check_folder : Text → Request
   nothing : Request
   count_help : Request
   count : CountEntry → Request
@@ -35,7 +37,7 @@ is_help word = pointwise nat_eq word (codes "--help") || pointwise nat_eq word (
 -- a request to check
 abbrev pub check_asked : List Text → Request
 check_asked [] = nothing
-check_asked (word ∷ []) = if is_help word then help else nothing
+check_asked (word ∷ []) = if is_help word then help else check_folder word
 check_asked (ballots ∷ text ∷ []) = check ballots text
 check_asked (ballots ∷ text ∷ other ∷ words) = nothing
 
@@ -87,6 +89,13 @@ IsTextOutcome held ballots path told = IsUnreadFile held path told ⊎ ((text : 
 abbrev pub IsFilesOutcome : InputFiles → Text → Text → Report → Type 0
 IsFilesOutcome held path text_path told = IsUnreadFile held path told ⊎ ((ballots : Text) × Holds held path ballots × IsTextOutcome held ballots text_path told)
 
+-- the outcome of checking a folder: its path and the reason if the names in it can't be read, or a failed allocation
+abbrev pub IsFolderOutcome : InputFiles → Text → Report → Type 0
+IsFolderOutcome held path (report.Folder checked) = IsFolderChecked held path checked
+IsFolderOutcome held path (report.NotRead told why) = (string_bytes told ≡ path) × WithholdsNames held path (string_bytes why)
+IsFolderOutcome held path (report.Hindered why) = why ≡ problem.Memory
+IsFolderOutcome held path other = ⊥
+
 -- the content of a file of ballots in a given form
 abbrev pub read_in : FormEntry → Text → Result ReaderEntry (ℕ × BallotsFlaw)
 read_in blt bytes = read bytes
@@ -107,6 +116,7 @@ IsCountFileOutcome held asked told =
 abbrev pub IsAnswer : InputFiles → Request → Report → Type 0
 IsAnswer held help told = told ≡ report.Help
 IsAnswer held (check ballots text) told = IsFilesOutcome held ballots text told
+IsAnswer held (check_folder path) told = IsFolderOutcome held path told
 IsAnswer held nothing told = told ≡ report.BadArguments
 IsAnswer held count_help told = told ≡ report.CountHelp
 IsAnswer held (count asked) told = IsCountFileOutcome held asked told

@@ -29,6 +29,10 @@ pub mod Reports
 pub mod Pages
 pub mod Outputs
 pub mod InputFiles
+pub mod Folders
+pub mod FolderViews
+pub mod FolderWards
+pub mod FolderChecks
 pub mod Requests
 pub mod RequestViews
 pub mod Arguments

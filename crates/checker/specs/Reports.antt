@@ -11,6 +11,8 @@ use Rattle.checker.specs.declared.differences.Checked.{Checked}
 use Rattle.checker.specs.declared.differences.Checked.TheVariants as checked
 use Rattle.checker.specs.declared.ballot_counts.CountProblem.{CountProblem}
 use Rattle.checker.specs.declared.ballot_counts.CountProblem.TheVariants as uncounted
+use Rattle.checker.specs.declared.folder_checking.FolderChecked.{FolderChecked}
+use Rattle.checker.specs.declared.folder_checking.FolderChecked.TheVariants as folder
 use Rattle.checker.specs.declared.help.TheConstants.{COUNT_HELP, HELP}
 use Rattle.checker.specs.declared.hints.Hint.{Hint}
 use Rattle.checker.specs.declared.hints.Hint.TheVariants as hint
@@ -170,15 +172,25 @@ abbrev pub counted_page : Text → Option Text → ReportEntry
 counted_page text None = record { out = text; err = []; status = 0 }
 counted_page text (Some line) = record { out = text; err = line; status = 1 }
 
+-- the message that confirms a folder, with the number of its files
+abbrev pub confirmed_text : ℕ → Text
+confirmed_text files = joined (codes "each of the " ∷ decimal files ∷ codes " files is the one that the ballots, rejected papers and lots in the folder give\n" ∷ [])
+
+-- the outcome of checking a folder, with status 0 only if the folder is confirmed
+abbrev pub folder_page : FolderChecked → ReportEntry
+folder_page (folder.Confirmed files) = page_with 0 (confirmed_text files)
+folder_page (folder.Differs lines) = page_with 1 (string_bytes lines)
+
 -- the page for the outcome of running the program
 abbrev pub page_of : Report → ReportEntry
 page_of report.Help = page_with 0 HELP.now
 page_of report.CountHelp = page_with 0 COUNT_HELP.now
-page_of report.BadArguments = page_with 2 (codes "error: give the path of the ballots, and that of the sheet; --help says more\n")
+page_of report.BadArguments = page_with 2 (codes "error: give the path of a folder, or those of the ballots and the sheet; --help says more\n")
 page_of (report.Misread flaw) = page_with 2 (words_text flaw)
 page_of report.NotUtf8 = page_with 2 (codes "error: a word is not UTF-8\n")
 page_of (report.NotRead path why) = page_with 3 (unread_text (string_bytes path) (string_bytes why))
 page_of (report.Checked checked hint) = page_with (checked_status checked) (checked_text checked hint)
+page_of (report.Folder checked) = folder_page checked
 page_of (report.Hindered problem) = page_with (hindered_status problem) (hindered_text problem)
 page_of (report.Counted counted) = counted_page (string_bytes counted.text) (option_map string_bytes counted.lot_needed)
 page_of (report.NotCounted why) = page_with (uncounted_status why) (uncounted_text why)

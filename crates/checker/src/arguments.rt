@@ -1,7 +1,7 @@
 //! The request in the program's arguments, and its outcome.
 
 ghost use Rattle.std.specs.Prelude.{◌≡◌, ◌-◌, ◌^◌, ◌<◌, map, string_bytes, IfOk, IfErr};
-ghost use Rattle.checker.specs.Arguments.{IsAnswer, IsCheckOutcome, IsCountFileOutcome, IsCountOutcome, IsFilesOutcome, IsOutcome, IsPageFor, IsTextOutcome, IsUnreadFile};
+ghost use Rattle.checker.specs.Arguments.{IsAnswer, IsCheckOutcome, IsCountFileOutcome, IsCountOutcome, IsFilesOutcome, IsFolderOutcome, IsOutcome, IsPageFor, IsTextOutcome, IsUnreadFile};
 ghost use Rattle.checker.specs.Arguments.{asked, check_asked, count_asked, is_help, is_help_alone, words_told};
 ghost use Rattle.checker.specs.InputFiles.{Holds};
 ghost use Rattle.checker.specs.Outputs.{PrintsSomeReport, outputs_of};
@@ -9,6 +9,7 @@ ghost use Rattle.checker.specs.RequestViews.{request_told};
 
 use crate::ballot_counts::{count_ballots, count_records};
 use crate::checking::check;
+use crate::folder_checking::check_folder;
 use crate::hints::hint_of;
 use crate::input_files::{InputFiles, NotRead};
 use crate::printing::print_report;
@@ -76,6 +77,21 @@ fn checked_files<F: InputFiles>(alloc: Global, folder: &F, ballots: &str, text: 
     }
 }
 
+/// Returns the outcome of checking a folder.
+fn checked_folder<F: InputFiles>(alloc: Global, folder: &F, path: &str) -> Report
+    ensures { IsFolderOutcome (F.held folder.now) path.now result }
+{
+    let why = match check_folder(alloc, folder, path) {
+        Ok(checked) => return Report::Folder(checked),
+        Err(NotRead::Because(why)) => why,
+        Err(NotRead::Memory) => return Report::Hindered(Problem::Memory),
+    };
+    match String::from_str(alloc, path) {
+        Ok(path) => Report::NotRead { path, why },
+        Err(_) => Report::Hindered(Problem::Memory),
+    }
+}
+
 /// Returns whether the argument asks for help.
 fn is_help(word: &str) -> bool
     ensures { result ≡ is_help word.now }
@@ -92,7 +108,7 @@ fn check_answer<F: InputFiles>(alloc: Global, words: &[String], folder: &F) -> R
             if is_help(word.as_str()) {
                 Report::Help
             } else {
-                Report::BadArguments
+                checked_folder(alloc, folder, word.as_str())
             }
         }
         [ballots, text] => checked_files(alloc, folder, ballots.as_str(), text.as_str()),
@@ -180,6 +196,9 @@ fn outcome_of<F: InputFiles>(
 ///
 /// The arguments for a check are `--help`, or the paths of the ballots and of the text that is checked against them. The status is 0
 /// if the text is the sheet or the declaration that results from the ballots; `out` then says which. It is 1 if the text differs.
+///
+/// With one path, a folder is checked, as by [`check_folder`]. The status is 0 if it is confirmed, and otherwise 1; `err` then has a
+/// line for each file that isn't right.
 ///
 /// The arguments for a count are `--count`, followed by `--help`, or by the path of the ballots, the option for a text other than
 /// the sheet, and lots. The text is printed to `out`. The status is 0 if the count is finished. It is 1 if a lot is needed: the text

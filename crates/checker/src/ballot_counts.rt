@@ -72,7 +72,7 @@ fn is_finished(end: CountEnd) -> bool
 }
 
 /// Returns the lots of a contested ward; none for an uncontested one.
-fn lots_in<'a>(election: &Election<'a>) -> &'a [(u8, u8)]
+pub(crate) fn lots_in<'a>(election: &Election<'a>) -> &'a [(u8, u8)]
     ensures { result.now ≡ lots_in election.now.ward.poll election.now.lots.now }
 {
     match election.ward.poll {

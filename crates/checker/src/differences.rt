@@ -1,7 +1,7 @@
 //! The first difference between two texts.
 
-ghost use Rattle.std.specs.Prelude.{◌≡◌, ◌≤◌, length, string_bytes, IfOk};
-ghost use Rattle.checker.specs.Differences.{IsComparison, behind_lines, common, ended_lines, first_line, nearer};
+ghost use Rattle.std.specs.Prelude.{◌≡◌, ◌+◌, ◌≤◌, length, string_bytes, IfOk};
+ghost use Rattle.checker.specs.Differences.{IsComparison, behind_lines, common, ended_lines, first_line, nearer, same_lines};
 
 use std::alloc::{AllocError, Global};
 
@@ -44,6 +44,13 @@ fn ended_lines(text: &[u8]) -> usize
         }
     }
     lines
+}
+
+/// Returns the number of the first line at which a text differs from another, counted from 1.
+pub(crate) fn first_difference(text: &[u8], other: &[u8]) -> u64
+    ensures { result ≡ same_lines text.now other.now + 1 }
+{
+    ended_lines(common(text, other)) as u64 + 1
 }
 
 /// Returns what remains of a text after the given number of lines.

@@ -2,19 +2,28 @@
 
 /// The help on checking.
 pub(crate) const HELP: &str =
-    "Checks a stage sheet or a declaration against the ballots of its ward, without an office.
+    "Checks a published folder, or a stage sheet or a declaration against the ballots of its ward,
+without an office.
 
-Usage: count-office - check <BALLOTS> <SHEET>
+Usage: count-office - check <FOLDER>
+       count-office - check <BALLOTS> <SHEET>
 
 Arguments:
+  <FOLDER>   The path of a folder that the order publish made with --ballots
   <BALLOTS>  The path of the ballots, as the order ballots prints them, or as other programs
              write them (BLT)
   <SHEET>    The path of the text, as the orders sheet and result print it
 
-The status is 0 where the text is the very one that these ballots, rejected papers and lots
-give. It is 1 where the text differs: the program prints the first line that differs, and what
-it should be. It is 2 where the words or the ballots are not understood, or a lot is wanting.
-It is 3 where a file can't be read, memory is wanting, or an output fails.
+A folder's wards are counted again from its ballots, and all files are made again and compared,
+byte for byte. The status is 0 if each file is exactly that, and there is nothing else. It is 1
+if not: the program prints a line for each file that is wrong, and why.
+
+For a sheet the status is 0 where the text is the very one that these ballots, rejected papers
+and lots give. It is 1 where the text differs: the program prints the first line that differs,
+and what it should be.
+
+It is 2 where the words or the ballots of a sheet are not understood, or a lot is wanting. It is
+3 where the folder or a sheet's file can't be read, memory is wanting, or an output fails.
 ";
 
 /// The help on counting.

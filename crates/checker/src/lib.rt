@@ -45,6 +45,16 @@ mod lot_lines;
 mod lots;
 mod reading_back;
 mod wards;
+// a published folder, made again from its ballots and compared
+mod folder_checking;
+mod folder_comparison;
+mod folder_election;
+mod folder_faults;
+mod folder_files;
+mod folder_index;
+mod folder_texts;
+mod folder_unmade;
+mod folder_wards;
 // the program's request, and what it prints
 mod arguments;
 mod help;
@@ -60,6 +70,7 @@ pub use arguments::{ArgumentsFault, run};
 pub use ballot_counts::{CountProblem, CountText, CountedText, count_ballots, count_records};
 pub use checking::check;
 pub use differences::Checked;
+pub use folder_checking::{FolderChecked, check_folder};
 pub use input_files::{InputFiles, NotRead};
 pub use problem::{BallotsFlaw, Problem};
 pub use reading_back::ballots_read_back;

@@ -2,11 +2,12 @@
 
 ghost use Rattle.std.specs.Prelude.{◌≡◌, IfOk, option_map, string_bytes};
 ghost use Rattle.checker.specs.Pages.{page_told};
-ghost use Rattle.checker.specs.Reports.{checked_status, checked_text, counted_page, differing, hindered_status, hindered_text, lot_text, page_of, page_with, should_be_text};
+ghost use Rattle.checker.specs.Reports.{checked_status, checked_text, counted_page, differing, folder_page, hindered_status, hindered_text, lot_text, page_of, page_with, should_be_text};
 ghost use Rattle.checker.specs.Reports.{tied_text, too_long_text, uncounted_status, uncounted_text, unread_text, words_text};
 
 use crate::ballot_counts::{CountProblem, CountedText};
 use crate::differences::Checked;
+use crate::folder_checking::FolderChecked;
 use crate::help::{COUNT_HELP, HELP};
 use crate::hints::{Hint, hint_text};
 use crate::problem::Problem;
@@ -52,6 +53,8 @@ pub enum Report {
         checked: Checked,
         hint: Option<Hint>,
     },
+    /// A folder was checked.
+    Folder(FolderChecked),
     /// The check wasn't possible because of the given problem.
     Hindered(Problem),
     /// The ballots were counted.
@@ -286,6 +289,21 @@ fn counted_page(alloc: Global, counted: CountedText) -> Page
     }
 }
 
+/// Returns the page for the outcome of checking a folder.
+fn folder_page(alloc: Global, checked: FolderChecked) -> Result<Page, AllocError>
+    ensures { IfOk result (λ page. page_told page ≡ folder_page checked) }
+{
+    match checked {
+        FolderChecked::Confirmed { files } => {
+            let text = format!(in alloc;
+                "each of the {files} files is the one that the ballots, rejected papers and lots in the folder give\n"
+            )?;
+            Ok(page_with(alloc, WELL, text))
+        }
+        FolderChecked::Differs { lines } => Ok(page_with(alloc, DIFFERS, lines)),
+    }
+}
+
 /// Returns the page for an outcome; `AllocError` if an allocation fails.
 pub(crate) fn page_of(alloc: Global, report: Report) -> Result<Page, AllocError>
     ensures { IfOk result (λ page. page_told page ≡ page_of report) }
@@ -296,7 +314,7 @@ pub(crate) fn page_of(alloc: Global, report: Report) -> Result<Page, AllocError>
         Report::BadArguments => page_of_text(
             alloc,
             NOT_CHECKED,
-            "error: give the path of the ballots, and that of the sheet; --help says more\n",
+            "error: give the path of a folder, or those of the ballots and the sheet; --help says more\n",
         ),
         Report::Misread(flaw) => page_of_text(alloc, NOT_CHECKED, words_text(flaw)),
         Report::NotUtf8 => page_of_text(alloc, NOT_CHECKED, "error: a word is not UTF-8\n"),
@@ -308,6 +326,7 @@ pub(crate) fn page_of(alloc: Global, report: Report) -> Result<Page, AllocError>
             let text = checked_text(alloc, &checked, hint)?;
             Ok(page_with(alloc, checked_status(&checked), text))
         }
+        Report::Folder(checked) => folder_page(alloc, checked),
         Report::Hindered(problem) => {
             let text = hindered_text(alloc, &problem)?;
             Ok(page_with(alloc, hindered_status(&problem), text))

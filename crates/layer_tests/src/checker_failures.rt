@@ -33,6 +33,15 @@ impl MemoryFiles<'_> {
     }
 }
 
+impl MemoryFiles<'_> {
+    fn none(&self) -> NotRead {
+        match String::from_str(self.alloc, "there is none") {
+            Ok(why) => NotRead::Because(why),
+            Err(_) => NotRead::Memory,
+        }
+    }
+}
+
 impl InputFiles for MemoryFiles<'_> {
     fn read(&self, path: &str) -> Result<Vec<u8>, NotRead> {
         match path {
@@ -40,11 +49,19 @@ impl InputFiles for MemoryFiles<'_> {
             "text" => self.file(self.text),
             "tied" => self.file(TIED),
             "large" => Err(NotRead::Memory),
-            _ => match String::from_str(self.alloc, "there is none") {
-                Ok(why) => Err(NotRead::Because(why)),
-                Err(_) => Err(NotRead::Memory),
-            },
+            _ => Err(self.none()),
         }
+    }
+
+    fn names(&self, path: &str) -> Result<Vec<String>, NotRead> {
+        if path == "large" {
+            return Err(NotRead::Memory);
+        }
+        Err(self.none())
+    }
+
+    fn read_inside(&self, _path: &str, _name: &str) -> Result<Vec<u8>, NotRead> {
+        Err(self.none())
     }
 }
 
@@ -117,7 +134,9 @@ const NOT_TIED: &str = "error: the lot for stage 2 names none of the tied
 ";
 
 /// The checker's words, and its output.
-const ASKED: [(&str, (&str, &str, u8)); 14] = [
+const ASKED: [(&str, (&str, &str, u8)); 16] = [
+    ("large", MEMORY),
+    ("no\u{1b}ne", UNREAD),
     ("large text", MEMORY),
     ("ballots large", MEMORY),
     ("no\u{1b}ne nothing", UNREAD),

@@ -18,6 +18,8 @@ mod console_targets;
 #[cfg(test)]
 mod count_elections;
 #[cfg(test)]
+mod folder_checks;
+#[cfg(test)]
 mod keyfile_imports;
 #[cfg(test)]
 mod paper_marks;

@@ -1,0 +1,26 @@
+-- The outcome of checking a folder.
+use Rattle.std.specs.Prelude.{◌≡◌, ℕ, true, List, length, ⊤}
+use Rattle.publication.specs.Files.{FileEntry}
+use Rattle.checker.specs.Folders.{IsConfirmedFolder, IsPublishedFolder}
+use Rattle.checker.specs.FolderViews.{are_same}
+use Rattle.checker.specs.InputFiles.{InputFiles}
+use Rattle.checker.specs.Tokens.{Text}
+use Rattle.checker.specs.declared.folder_checking.FolderChecked.{FolderChecked}
+use Rattle.checker.specs.declared.folder_checking.FolderChecked.TheVariants.{Confirmed, Differs}
+use Rattle.checker.specs.declared.folder_files.FolderFile.{FolderFile}
+
+-- the outcome for the folder at the given path: it is confirmed only if it has exactly the files of a published election
+abbrev pub IsFolderChecked : InputFiles → Text → FolderChecked → Type 0
+IsFolderChecked held path (Confirmed files) = IsConfirmedFolder held path files
+IsFolderChecked held path (Differs lines) = ⊤
+
+-- the outcome for the files that were read: they are confirmed only if they are the files of a published election
+pub record IsFoundConfirmed (found : List FolderFile) (count : ℕ) : Type 0 where
+  pub files : List FileEntry
+  pub same : are_same found files ≡ true
+  pub is : IsPublishedFolder files
+  pub many : count ≡ length files
+
+abbrev pub IsFoundChecked : List FolderFile → FolderChecked → Type 0
+IsFoundChecked found (Confirmed files) = IsFoundConfirmed found files
+IsFoundChecked found (Differs lines) = ⊤
