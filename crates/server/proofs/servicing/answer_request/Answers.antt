@@ -84,8 +84,8 @@ returns-in-Ok-record-clause-served g c = λ number moment.
     ))
 
 -- a keying that was accepted, but recording it failed
-pub returns-in-Err-clause-served : goal.returns-in-Err-clause-served
-returns-in-Err-clause-served g c = λ number moment.
+pub returns-in-Keying-clause-served : goal.returns-in-Keying-clause-served
+returns-in-Keying-clause-served g c = λ number moment.
     let settings = settings_by g.A.ServedFile.whole (g.R.Recorder.records c.args.kept.now.recorder) c.args.server_settings in
     let view = served_view (state g.S.Store) g.R.Recorder.found g.R.Recorder.failed in
     let got = c.args.got.now in
@@ -118,8 +118,8 @@ returns-in-Order-clause-served g c = λ number moment.
     ))
 
 -- a page, or a rejection
-pub returns-in_default-asked-clause-served : goal.returns-in_default-asked-clause-served
-returns-in_default-asked-clause-served g c = λ number moment.
+pub returns : goal.returns
+returns g c =
     let its = settings_entry c.args.server_settings.http in
     let view = served_view (state g.S.Store) g.R.Recorder.found g.R.Recorder.failed in
     let did = c.answer_uncached in
@@ -127,8 +127,13 @@ returns-in_default-asked-clause-served g c = λ number moment.
     let asked = http_request_entry c.in-Ok.asked in
     let asks = c.in-Ok.ensures c.requires in
     let still = changes_nothing c.in-Ok.asked c.in_default-asked.not-Keying c.in_default-asked.not-Order in
-    inl (inl (
-      asks_no_order its c.args.got.now asked asks still.1,
-      served_anew its view c.args.office.now did.new.office kept kept number moment c.args.got.now asked did.result.bytes.items asks still.0 did.ensures.answers
-          (keeps_same its view c.args.office.now did.new.office kept c.args.got.now asked asks still.0 (did.ensures.only still.0)) refl,
-    ))
+    record {
+      served = λ number moment. inl (inl (
+        asks_no_order its c.args.got.now asked asks still.1,
+        served_anew its view c.args.office.now did.new.office kept kept number moment c.args.got.now asked did.result.bytes.items asks still.0 did.ensures.answers
+            (keeps_same its view c.args.office.now did.new.office kept c.args.got.now asked asks still.0 (did.ensures.only still.0)) refl,
+      ));
+      limit = refl;
+      same = refl;
+      untold = did.ensures.untold;
+    }
