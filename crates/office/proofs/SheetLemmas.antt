@@ -87,7 +87,8 @@ state_is_textual s w is columns there =
 -- the papers that passed on with each surplus, if the program counts the bundles of the election with its lots
 pub surpluses_alike : (e : ElectionEntry) (found : List PassedOn) (candidates : List ℕ) (seats : ℕ) (bundles : List Bundle) (lots : List (ℕ × ℕ)) (k : ℕ) → is_in_count e ≡ true →
     IsContest (contest_for (columns_of e.candidates) e.ward.seats (papers_of (bundled e.ballots.papers))) → candidates ≡ columns_of e.candidates → seats ≡ e.ward.seats → bundles ≡ bundles_shown e →
-    lots ≡ lots_shown e → k ≡ length (stages_shown e) → (IsContest (contest_for candidates seats (papers_of bundles)) → found ≡ surpluses_of candidates seats bundles lots k) → found ≡ surpluses_shown e
+    lots ≡ lots_shown e → k ≡ length (stages_shown e) →
+    (IsContest (contest_for candidates seats (papers_of bundles)) → found ≡ surpluses_of candidates seats bundles lots k) → found ≡ surpluses_shown e
 surpluses_alike e found candidates seats bundles lots k counted fair candidates_are seats_are bundles_are lots_are k_is is =
     let has : has_count e ≡ true = (and_parts (is_counted e.ward.phase) (has_count e) counted).1 in
     let papers : List Bundle = bundled e.ballots.papers in

@@ -1,5 +1,6 @@
 -- The papers that pass on with a surplus, from the places of their bundles before and after it.
-use Rattle.std.proofs.Common.{◌≡◌, ℕ, suc, ◌+◌, ◌==◌, nat_eq, Bool, true, false, cond, List, [], ◌∷◌, ◌++◌, map, length, reverse, fold, Option, Some, None, refl, sym, ap, ◌∙◌, subst, inl, inr, arith, append-nil, ◌<◌, zero, slice_get, slice_set, insert, Result, Ok, Err}
+use Rattle.std.proofs.Common.{◌≡◌, ℕ, suc, ◌+◌, ◌==◌, nat_eq, Bool, true, false, cond, List, [], ◌∷◌, ◌++◌, map, length, reverse, fold, Option}
+use Rattle.std.proofs.Common.{Some, None, refl, sym, ap, ◌∙◌, subst, inl, inr, arith, append-nil, ◌<◌, zero, slice_get, slice_set, insert, Result, Ok, Err}
 use Rattle.std.specs.Prelude.{OnOk, is_ok}
 use Rattle.std.proofs.lemmas.List.Sums.{sum_by-insert, sum_by-set}
 use Rattle.std.proofs.lemmas.Option.{get_or_from_slice_get}
@@ -22,7 +23,8 @@ use Rattle.count.specs.declared.stages.Action.TheVariants.{First, Surplus, Exclu
 use Rattle.count.specs.declared.stages.Due.{Due}
 use Rattle.count.specs.declared.stages.Due.TheVariants.{Act, Lot, Finished}
 use Rattle.count.specs.declared.stages.Stage.{Stage}
-use Rattle.sheet.specs.Surpluses.{AdvancesIfDue, all_held, all_placed, count_above, held_by, of_surplus, papers_in, passed_by, passed_next, passed_to, surplus_by, with_held, with_papers, with_papers_at, with_placed}
+use Rattle.sheet.specs.Surpluses.{AdvancesIfDue, all_held, all_placed, count_above, held_by, of_surplus, papers_in}
+use Rattle.sheet.specs.Surpluses.{passed_by, passed_next, passed_to, surplus_by, with_held, with_papers, with_papers_at, with_placed}
 use Rattle.sheet.specs.declared.surpluses.PassedOn.{PassedOn}
 
 -- ---- the number of papers
@@ -95,8 +97,8 @@ all_are contest contest2 old new of c lot bundles bs bs2 before after of_is same
     ∙ held_all contest old s c [] bundles action
 
 -- the figures of a surplus
-pub surplus_is : (contest : Contest) (old : History) (c n surplus votes received passed : ℕ) → n ≡ length old + 1 → surplus ≡ surplus_of contest old c → votes ≡ newest_votes old c → received ≡ 0 → passed ≡ 0 →
-    record { stage = n; candidate = c; surplus = surplus; votes = votes; papers = 0; received = received; passed = passed } ≡ of_surplus contest old c
+pub surplus_is : (contest : Contest) (old : History) (c n surplus votes received passed : ℕ) → n ≡ length old + 1 → surplus ≡ surplus_of contest old c → votes ≡ newest_votes old c →
+    received ≡ 0 → passed ≡ 0 → record { stage = n; candidate = c; surplus = surplus; votes = votes; papers = 0; received = received; passed = passed } ≡ of_surplus contest old c
 surplus_is contest old c n surplus votes received passed n_is above votes_is received_is passed_is =
     let made : ℕ → ℕ → ℕ → ℕ → ℕ → PassedOn =
     λ (k s v r p : ℕ). record { stage = k; candidate = c; surplus = s; votes = v; papers = 0; received = r; passed = p } in
@@ -129,15 +131,16 @@ pub lot_here : (lots : List (ℕ × ℕ)) (lot : Option ℕ) (stages : List Stag
 lot_here lots lot stages old n is n_is lot_is =
     lot_is ∙ ap (lot_for lots) (n_is ∙ number_here stages old is)
 
-pub next_drawn : (contest : Contest) (lots : List (ℕ × ℕ)) (old : History) (lot : Option ℕ) (o : Option Action) → lot ≡ lot_for lots (length old + 1) → drawn contest old lot (due_after contest old) ≡ o →
-    next_action contest lots old ≡ o
+pub next_drawn : (contest : Contest) (lots : List (ℕ × ℕ)) (old : History) (lot : Option ℕ) (o : Option Action) → lot ≡ lot_for lots (length old + 1) →
+    drawn contest old lot (due_after contest old) ≡ o → next_action contest lots old ≡ o
 next_drawn contest lots old lot o lot_is drew = ap (λ (l : Option ℕ). drawn contest old l (due_after contest old)) (sym lot_is) ∙ drew
 
 pub next_refused : (contest : Contest) (lots : List (ℕ × ℕ)) (old : History) (lot : Option ℕ) (e : AdvanceError) → lot ≡ lot_for lots (length old + 1) →
     refusal lot (due_after contest old) ≡ Some e → next_action contest lots old ≡ None
 next_refused contest lots old lot e lot_is refused = next_drawn contest lots old lot None lot_is (refused_none contest old lot (due_after contest old) e refused)
 
-pub advances_by : (contest : Contest) (lots : List (ℕ × ℕ)) (old new : History) (lot : Option ℕ) → lot ≡ lot_for lots (length old + 1) → Advances contest old lot new → AdvancesIfDue contest lots old new
+pub advances_by : (contest : Contest) (lots : List (ℕ × ℕ)) (old new : History) (lot : Option ℕ) → lot ≡ lot_for lots (length old + 1) → Advances contest old lot new →
+    AdvancesIfDue contest lots old new
 advances_by contest lots old new lot lot_is next = inr (subst (λ (l : Option ℕ). Advances contest old l new) lot_is next)
 
 -- ---- the papers at the next stage
@@ -154,8 +157,8 @@ passed_other contest lots bundles old found action is none =
     ∙ ap (λ (o : Option ℕ). found ++ held_by contest old bundles o) (sym none)
     ∙ ap (λ (o : Option Action). found ++ passed_by contest old bundles o) (sym is)
 
-pub passed_surplus : (contest : Contest) (lots : List (ℕ × ℕ)) (bundles : List Bundle) (old : History) (found groups : List PassedOn) (action : Action) (c : ℕ) → next_action contest lots old ≡ Some action →
-    surplus_by action ≡ Some c → groups ≡ all_held contest old bundles c → found ++ groups ≡ found ++ passed_next contest lots bundles old
+pub passed_surplus : (contest : Contest) (lots : List (ℕ × ℕ)) (bundles : List Bundle) (old : History) (found groups : List PassedOn) (action : Action) (c : ℕ) →
+    next_action contest lots old ≡ Some action → surplus_by action ≡ Some c → groups ≡ all_held contest old bundles c → found ++ groups ≡ found ++ passed_next contest lots bundles old
 passed_surplus contest lots bundles old found groups action c is some groups_are =
     ap (λ (l : List PassedOn). found ++ l) groups_are
     ∙ ap (λ (o : Option ℕ). found ++ held_by contest old bundles o) (sym some)

@@ -1,9 +1,8 @@
 -- Proof that `surpluses_in` meets its contract.
-use Rattle.std.proofs.Common.{◌≡◌, ◌∙◌, ap, subst, length}
+use Rattle.std.proofs.Common.{◌∙◌, ap, subst, length}
 use Rattle.std.proofs.lemmas.Result.{IfOk-weaker}
 use Rattle.register.specs.Marks.{columns_of}
 use Rattle.register.specs.Tabulated.{IsCountIn}
-use Rattle.office.specs.Sheets.{surpluses_shown}
 use Rattle.office.proofs.SheetLemmas.{surpluses_alike}
 use Rattle.office.proofs.sheets.surpluses_in.Goals as goal
 

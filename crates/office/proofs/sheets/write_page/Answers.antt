@@ -1,9 +1,9 @@
 -- Proof that `write_page` meets its contract.
-use Rattle.std.proofs.Common.{◌≡◌, ◌∙◌, ap}
+use Rattle.std.proofs.Common.{◌∙◌, ap}
 use Rattle.std.proofs.lemmas.Result.{IfOk-weaker}
 use Rattle.sheet.specs.Page.{page}
 use Rattle.register.specs.Elections.{is_declared}
-use Rattle.office.specs.Sheets.{election_shown, lots_shown, stages_shown, surpluses_shown}
+use Rattle.office.specs.Sheets.{election_shown, lots_shown, stages_shown}
 use Rattle.office.proofs.sheets.write_page.Goals as goal
 
 pub returns : goal.returns

@@ -1,5 +1,5 @@
 -- Proof that `write_text` meets its contract.
-use Rattle.std.proofs.Common.{◌≡◌, ◌∙◌, ap, sym}
+use Rattle.std.proofs.Common.{◌∙◌, ap, sym}
 use Rattle.std.proofs.lemmas.Result.{IfOk-weaker}
 use Rattle.office.specs.Sheets.{text_shown}
 use Rattle.office.proofs.sheets.write_text.Goals as goal
