@@ -2,12 +2,12 @@
 use Rattle.std.proofs.Common.{◌≡◌, ◌∙◌, ℕ, ◌<◌, Bool, true, false, String, Global, List, [], ◌∷◌, ◌++◌, length, map, refl, sym, ap, subst, arith}
 use Rattle.std.specs.Prelude.{if◌then◌else◌, Ok, bytes_eq, string_bytes}
 use Rattle.std.specs.Option.{unwrap_or}
-use Rattle.std.specs.List.{All, Any, Contains, list_all, list_any}
+use Rattle.std.specs.List.{All, Contains, list_all}
 use Rattle.std.proofs.lemmas.List.{get_or-map, length-map, take_all}
 use Rattle.std.proofs.lemmas.List.Elements.{All-contains, All-map, All-nil, All-push, All-weaker}
 use Rattle.std.proofs.lemmas.List.Folds.{Any-from_list_any}
 use Rattle.std.proofs.lemmas.List.Sums.{AllPass-from_list_all}
-use Rattle.publication.specs.Election.{ElectionEntry, WardEntry, ascend_from}
+use Rattle.publication.specs.Election.{WardEntry, ascend_from}
 use Rattle.publication.specs.Files.{FileEntry, file_entry, names}
 use Rattle.publication.specs.declared.files.PublishedFile.{PublishedFile}
 use Rattle.publication.specs.Folder.{published}

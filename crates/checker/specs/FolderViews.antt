@@ -1,5 +1,5 @@
 -- The files of a folder as the checker reads them, and their comparison with the files that it makes.
-use Rattle.std.specs.Prelude.{◌≡◌, Bool, false, ◌&&◌, List, bytes_eq, string_bytes}
+use Rattle.std.specs.Prelude.{Bool, false, ◌&&◌, List, bytes_eq, string_bytes}
 use Rattle.std.specs.List.{list_all, list_any}
 use Rattle.publication.specs.Files.{FileEntry}
 use Rattle.checker.specs.InputFiles.{InputFiles, HoldsInside, WithholdsInside}

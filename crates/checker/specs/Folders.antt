@@ -15,7 +15,6 @@ use Rattle.sheet.specs.Page.{page}
 use Rattle.sheet.specs.Results.{results}
 use Rattle.sheet.specs.Sheet.{declaration, sheet}
 use Rattle.sheet.specs.Spreadsheet.{spreadsheet}
-use Rattle.sheet.specs.declared.index.WardStanding.{WardStanding}
 use Rattle.sheet.specs.declared.index.WardStanding.TheVariants as standing
 use Rattle.checker.specs.Counts.{IsWardCount, lots_in}
 use Rattle.checker.specs.InputFiles.{InputFiles, HoldsInside, HoldsNames}
