@@ -2,19 +2,23 @@
 //! name goes unnoticed.
 
 use crate::checker_texts::BALLOTS;
+use crate::sheet_outputs::candidates_of;
 use checker::{
     CountText, CountedText, FolderChecked, InputFiles, NotRead, check_folder, count_ballots,
 };
 use publication::{PublishedElection, PublishedFile, WardTexts, published_files};
-use sheet::{ListedWard, WardStanding, index_text};
+use sheet::{
+    ListedWard, Poll, Ward, WardStanding, can_be_printed, index_text, page_text, results_text,
+    sheet_text, spreadsheet_text,
+};
 use std::alloc::{AllocError, Global};
 use std::process::Abort;
 use std::test::Fail;
 
 const TITLE: &str = "City \"A\" & 'B' <C>";
 
-/// How many bytes of each file are changed, one at a time.
-const STEPS: usize = 5;
+/// How many bytes of each file are changed, one at a time. A check makes the whole folder again, so there are few.
+const STEPS: usize = 2;
 
 /// The ballots of a ward whose count is waiting for a lot.
 const TIED: &str = r#"3 1
@@ -39,6 +43,18 @@ const UNCONTESTED: &str = r#"3 3
 "Eve"
 "Quay"
 # Ward 12
+"#;
+
+/// The ballots of a sealed ward none of whose stages is done yet.
+const UNCOUNTED: &str = r#"2 1
+2 1 0
+1 2 1 0
+0
+"Flo"
+"Gus"
+"Sound"
+# Ward 15
+# Rejected 1: 0, 2: 0, 3: 0, 4: 0, 5: 2
 "#;
 
 /// What is different in a folder from what was published.
@@ -156,6 +172,31 @@ fn texts_of(alloc: Global, ballots: &str) -> Result<OwnTexts, Fail> {
     })
 }
 
+/// Returns the texts of the ward none of whose stages is done yet.
+fn uncounted_texts(alloc: Global) -> Result<OwnTexts, Fail> {
+    let candidates = candidates_of(alloc, &[(1, "Flo"), (2, "Gus")])?;
+    let ward = Ward {
+        number: 15,
+        name: "Sound",
+        seats: 1,
+        candidates: &candidates,
+        poll: Some(Poll {
+            valid: 3,
+            rejected: [0, 0, 0, 0, 2],
+        }),
+    };
+    if !can_be_printed(&ward) {
+        return Err(Fail::from("the ward isn't printed"));
+    }
+    Ok(OwnTexts {
+        page: page_text(alloc, &ward, TITLE, false, &[], &[])?,
+        sheet: sheet_text(alloc, &ward, &[])?,
+        declaration: String::new(alloc),
+        table: spreadsheet_text(alloc, &ward, &[])?,
+        results: results_text(alloc, &ward, false, &[], &[])?,
+    })
+}
+
 /// Returns what is published of a ward.
 fn published<'a>(
     number: u8,
@@ -181,7 +222,7 @@ fn published<'a>(
 }
 
 /// The wards on the page of all wards: number, name, seats, status, whether it is contested, and who is elected.
-const LISTED: [(u32, &str, u32, WardStanding, bool, &[(u32, &str)]); 5] = [
+const LISTED: [(u32, &str, u32, WardStanding, bool, &[(u32, &str)]); 6] = [
     (3, "Open <1>", 4, WardStanding::Nominations, true, &[]),
     (
         7,
@@ -200,6 +241,7 @@ const LISTED: [(u32, &str, u32, WardStanding, bool, &[(u32, &str)]); 5] = [
         false,
         &[(1, "Dee"), (3, "Eve")],
     ),
+    (15, "Sound", 1, WardStanding::Sealed, true, &[]),
     (20, "Lane & Co", 1, WardStanding::Keying, true, &[]),
 ];
 
@@ -235,12 +277,14 @@ fn files_of(alloc: Global, with_ballots: bool) -> Result<Vec<PublishedFile>, Fai
         texts_of(alloc, TIED)?,
         texts_of(alloc, UNCONTESTED)?,
     );
+    let fifteen = uncounted_texts(alloc)?;
     let index = index_of(alloc)?;
     let ballots = |text| if with_ballots { Some(text) } else { None };
     let wards = [
         published(7, "Harbour", ballots(BALLOTS), &seven),
         published(9, "Hill", ballots(TIED), &nine),
         published(12, "Quay", ballots(UNCONTESTED), &twelve),
+        published(15, "Sound", ballots(UNCOUNTED), &fifteen),
     ];
     let election = PublishedElection {
         title: TITLE,
