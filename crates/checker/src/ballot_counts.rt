@@ -92,22 +92,25 @@ fn declared(alloc: Global, election: &Election, count: &WardCount) -> Result<Str
     declaration_text(alloc, &election.ward, count.elected)
 }
 
-/// Returns the papers that passed on with each surplus of a contested ward; none for an uncontested one.
-fn surpluses_in(
+/// Returns the papers that passed on with each surplus at the given number of stages of a ward's count; none for an uncontested
+/// ward.
+pub(crate) fn surpluses_in(
     alloc: Global,
     election: &Election,
     count: &WardCount,
+    stages: usize,
 ) -> Result<Vec<PassedOn>, AllocError>
     requires ward { CanBePrinted election.now.ward }
     requires counted { IsWardCount election.now.ward.poll (shown election.now.ward) election.now.bundles.now election.now.lots.now count.now }
-    ensures { IfOk result (λ found. found.items ≡ surpluses_in election.now.ward.poll (shown election.now.ward) election.now.bundles.now election.now.lots.now (length count.now.stages.items)) }
+    ensures { IfOk result (λ found. found.items ≡ surpluses_in election.now.ward.poll (shown election.now.ward) election.now.bundles.now election.now.lots.now stages) }
 {
+    // called for its postcondition alone: the count is the ward's
+    let _ = count.stages.len();
     match election.ward.poll {
         None => Ok(Vec::new(alloc)),
         Some(_) => {
             let ward = &election.ward;
             let (bundles, lots) = (election.bundles, election.lots);
-            let stages = count.stages.len();
             surpluses_of(alloc, numbers_of(ward), ward.seats, bundles, lots, stages)
         }
     }
@@ -124,7 +127,7 @@ fn page_of(
     requires counted { IsWardCount election.now.ward.poll (shown election.now.ward) election.now.bundles.now election.now.lots.now count.now }
     ensures { IfOk result (λ told. string_bytes told ≡ text_shown (page_asked title.now) (shown election.now.ward) election.now.bundles.now election.now.lots.now count.now) }
 {
-    let surpluses = surpluses_in(alloc, election, count)?;
+    let surpluses = surpluses_in(alloc, election, count, count.stages.len())?;
     let shown = CountShown {
         stages: &count.stages,
         lots: lots_in(election),
