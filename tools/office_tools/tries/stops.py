@@ -117,7 +117,9 @@ KEYING = '{"id":"k","round":1,"papers":["1,2,","D"]}'
 RECORD, SAME = "town.script", "town.script and this office hold the same"
 MORE_HERE, MORE_THERE = "this office has one request more than town.script", "town.script has one request more than this office"
 UNRECORDED, NOT_RECORDED = "fault 112: second record\n", b'{"fault":112}'
-RECORD_FAILS = f"{RECORD}: the file of the second record failed; nothing more is accepted until you start again with a new file\n"
+WARNING = f"warning: {RECORD} is on the same disk as the office, so losing that disk loses both; use a file on another disk\n"
+RECORD_FAILS = (f"recording in {RECORD} now\n"
+                f"{RECORD}: the file of the second record failed; nothing more is accepted until you start again with a new file\n")
 WHOLE = re.compile(rb"HTTP/1\.1 200 OK\r\n.*?Content-Length: (\d+)\r\n.*?\r\n\r\n(.*)", re.DOTALL)
 
 class Crowd:
@@ -143,7 +145,10 @@ class Crowd:
             printed[f"ward {ward}"] = here.run("ward", ward, 2, f"Ward {ward}", "--id", f"w{ward}")
             self.alone |= {f"ward {ward}"} if self.words and self.is_over.is_set() else set()
         faults = [(3, "", UNRECORDED)] if self.fails else [(3, "", STORE)]
-        other = [one for ward, one in printed.items() if one not in ((0, f"{ward} added\n", ""), *faults, (3, f"{ward} added\n", STORE))]
+        # An order that is done alone says that the record lacks it.
+        noted = {ward for ward in self.alone if printed[ward].err.startswith("note: this office was served with the second record ")}
+        told = {ward: (*one[:2], "") if ward in noted else one for ward, one in printed.items()}
+        other = [one for ward, one in told.items() if one not in ((0, f"{ward} added\n", ""), *faults, (3, f"{ward} added\n", STORE))]
         wrong_if(other, f"an order for a ward prints {other}")
         return {ward: one for ward, one in printed.items() if one.out and ward not in self.alone}
 
@@ -172,7 +177,8 @@ class Crowd:
                 serving.process.kill()
             (keyed, keying), (ordered, ordering) = keyings.result(), orders.result()
             if fails:
-                later = key(1).endswith(NOT_RECORDED), status(serving.ask(request("/clerks/1/work"))), serving.kill().err
+                later = key(1).endswith(NOT_RECORDED), status(serving.ask(request("/clerks/1/work")))
+                later = *later, serving.kill().err.replace(WARNING, "")
                 expect("what a clerk gets and reads later, and `serve` prints", later, (True, 200, RECORD_FAILS))
         return (keying, ordering), keyed | ordered
 
@@ -257,10 +263,14 @@ def failed_alone(folder):
     before, (_, after, _), calls = office.rows(), ordered(), CALL.findall(trace.read_text(encoding="utf-8"))
     for number, call in enumerate(calls):
         printed, rows, second = ordered(f"{call}:error=EIO:when={calls[:number + 1].count(call)}")
-        is_told = re.fullmatch(f"(.*\n)?{UNRECORDED}(.*\n)?|file fault 8 at record 0: read failed\n", printed.err)
+        err = printed.err.replace(WARNING, "")
+        is_told = re.fullmatch(f"(.*\n)?{UNRECORDED}(.*\n)?|file fault 8 at record 0: read failed\n", err)
         is_compared = SAME in second.out or (rows == after and MORE_HERE in second.err)
-        wrong_if(printed[:2] != (3, "") or not is_told or rows not in (before, after) or not is_compared, f"{call}: {printed}, {second}")
-        done += rows == after
+        # Whether the file is on the office's disk may stay unknown.
+        is_harmless = call == "statx" and (*printed[:2], err) == (0, "ward 50 added\n", "") and rows == after and SAME in second.out
+        is_right = printed[:2] == (3, "") and is_told and rows in (before, after) and is_compared
+        wrong_if(not is_right and not is_harmless, f"{call}: {printed}, {second}")
+        done += rows == after and not is_harmless
     return len(calls), done
 
 @contextlib.contextmanager
@@ -303,7 +313,7 @@ def try_second_record(room, runs=100, seed=7, *, step=1):
     it fails later, the same holds as after a kill, and more: nothing is acknowledged from then on, although the calls don't fail any more.
     Each clerk and order gets fault 112, `serve` prints why, and pages can be read. With a new FILE everyone gets the answer. Given by root,
     it also has FILE on a disk of 4 KB that becomes full, which cuts a line. Last fails each call on FILE of an order that is performed alone:
-    it prints fault 112 or file fault 8, and is done or not; if it is done, FILE may lack it.
+    it prints fault 112 or file fault 8, and is done or not; if it is done, FILE may lack it. A `statx` that fails may harm nothing.
     """
     needs("strace")
     chance, crowd = random.Random(seed), Crowd(room, "--second", RECORD)
@@ -316,6 +326,8 @@ def try_second_record(room, runs=100, seed=7, *, step=1):
     here = crowd.office.copied(crowd.here)
     with here.serve(*crowd.words, under=crowd.traced(here)).wait():
         begins = CALL.findall(crowd.here.with_name("trace").read_text(encoding="utf-8"))
+    # What comes after the look at the file that was read only tells whether it is on the office's disk, and where.
+    begins = begins[: begins.index("read") + 2]
     for number, call in enumerate(begins):
         with about(f"call {number} on a record that begins, {call}"):
             crowd.unstarted(f"{call}:error=EIO:when={begins[:number + 1].count(call)}")
