@@ -136,7 +136,8 @@ module _ {S : Type 0} {state_of : Held S → State} where
   }
 
   -- the office returned a fault
-  pub read_failed : {Z : Type 0} {P : OfficeState → Z → Type 0} {f : Fault} {old new : OfficeValue S} → OnlyReads (state_of old.held) (state_of new.held) → WhenOpenAt state_of old new (λ s. IsKeptOpen s f new.closed (state_of new.held) ⊎ IsClosedReading s f new.closed (state_of new.held))
+  pub read_failed : {Z : Type 0} {P : OfficeState → Z → Type 0} {f : Fault} {old new : OfficeValue S} → OnlyReads (state_of old.held) (state_of new.held)
+      → WhenOpenAt state_of old new (λ s. IsKeptOpen s f new.closed (state_of new.held) ⊎ IsClosedReading s f new.closed (state_of new.held))
       → Reads state_of old new (Err f) P
   read_failed {old = old} {new = new} reads told = record {
     shows = λ clean is_open s at. tt;

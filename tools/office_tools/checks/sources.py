@@ -89,12 +89,11 @@ def crates():
 # What shellcheck doesn't report: words in single quotes that look like the shell's own, since they are another program's.
 QUOTED = "SC2016,SC1003"
 PARAMETERS, LINES, CHARACTERS = 5, 40, 200
-# The functions that are larger; and lines of proofs that are a few characters too long.
+# The functions that are larger; and a line that is two characters too long since something in it was renamed.
 LARGE = {
     "checker": "flaw_remedy", "count": "figured lost_from", "sheet": "style write_page write_row", "tables": "select_text",
     "desk": "begin_steps count_stages follow_recorded in_office mend_open perform_recorded replay run run_part run_script run_steps "
-            "second_in second_open send_all tell_numbered proofs/PublishLemmas.antt:139 proofs/publishing/index_of/Answers.antt:11 "
-            "proofs/publishing/sealed_wards/Answers.antt:18",
+            "second_in second_open send_all tell_numbered",
     "store_tests": "are_refused give",
     "count_office": "fill fill_mended fill_open finish finish_mended mend_served dispatch_order perform_locked",
     "wire": "proofs/answering/answer_reading/Answers.antt:35",

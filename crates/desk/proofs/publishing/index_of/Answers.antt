@@ -8,7 +8,8 @@ use Rattle.desk.proofs.publishing.index_of.Goals as goal
 
 pub returns-in-Ok : goal.returns-in-Ok
 returns-in-Ok g c =
-    let one : Reads (state g.S.Store) c.args.office.now c.index.new.self (Ok c.in-Ok.told) (λ s z. index_answer c.args.title.now s ≡ Ok (string_bytes z)) = read_ok c.index.ensures.same c.in-Ok.ensures.reads in
+    let one : Reads (state g.S.Store) c.args.office.now c.index.new.self (Ok c.in-Ok.told) (λ s z. index_answer c.args.title.now s ≡ Ok (string_bytes z)) =
+    read_ok c.index.ensures.same c.in-Ok.ensures.reads in
     reads_as one (λ s is told. told_value refl told)
 
 pub returns-in-Err-Fault : goal.returns-in-Err-Fault

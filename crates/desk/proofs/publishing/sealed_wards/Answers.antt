@@ -15,7 +15,8 @@ loop-overview-preserved g c =
     let there = overview_there s is c.args.overviews.now same c.loop-overview.overview-index c.overview-item.result c.loop-overview-test.true c.overview-item.is in
     published_more (ward_published c.args.asked.title.now c.args.asked.with_ballots s) ward_of_overview c.args.overviews.now c.loop-overview.overview-index c.overview-item.result
     (map sealed_entry c.loop-overview.wards.items) (map sealed_entry c.push_ward.new.wards.items)
-    (flat_map (ward_published c.args.asked.title.now c.args.asked.with_ballots s) (map ward_of_overview c.args.overviews.now)) c.loop-overview-test.true c.overview-item.is (told.1 is there) (told.0 same))
+    (flat_map (ward_published c.args.asked.title.now c.args.asked.with_ballots s) (map ward_of_overview c.args.overviews.now)) c.loop-overview-test.true c.overview-item.is
+    (told.1 is there) (told.0 same))
 
 pub returns-in_err-push_ward : goal.returns-in_err-push_ward
 returns-in_err-push_ward g c = reads_cut c.from_residual.ensures.1 c.loop-overview.invariant c.in_err-push_ward.ensures
