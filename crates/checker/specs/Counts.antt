@@ -1,5 +1,5 @@
 -- The count of the ward in a file of ballots, and the texts of that count.
-use Rattle.std.specs.Prelude.{◌≡◌, ◌⊎◌, ◌==◌, ℕ, ◌+◌, nat_eq, nat_lt, Bool, true, false, if◌then◌else◌, List, []}
+use Rattle.std.specs.Prelude.{◌≡◌, ◌⊎◌, ◌==◌, ℕ, ◌+◌, nat_eq, nat_lt, Bool, true, false, if◌then◌else◌, List, [], length}
 use Rattle.std.specs.Prelude.{◌∷◌, reverse, insert, option_map, Option, Some, None, Result, Ok, Err, codes, string_bytes, ⊤}
 use Rattle.std.specs.Fmt.{decimal}
 use Rattle.std.specs.List.{flat_map, list_any}
@@ -15,6 +15,8 @@ use Rattle.sheet.specs.Page.{page}
 use Rattle.sheet.specs.Sheet.{declaration, sheet}
 use Rattle.sheet.specs.Results.{results}
 use Rattle.sheet.specs.Spreadsheet.{spreadsheet}
+use Rattle.sheet.specs.Surpluses.{surpluses_of}
+use Rattle.sheet.specs.declared.surpluses.PassedOn.{PassedOn}
 use Rattle.sheet.specs.declared.ward.Poll.{Poll}
 use Rattle.checker.specs.Checks.{EndsAt, IsWardProblem, dues_of, undrawn, undrawn_by}
 use Rattle.checker.specs.BallotsComments.{is_drawn}
@@ -114,6 +116,11 @@ abbrev pub lots_in : Option Poll → List (ℕ × ℕ) → List (ℕ × ℕ)
 lots_in None lots = []
 lots_in (Some poll) lots = lots
 
+-- the papers that passed on with each surplus at the given number of stages; an uncontested ward has none
+abbrev pub surpluses_in : Option Poll → SheetEntry → List Bundle → List (ℕ × ℕ) → ℕ → List PassedOn
+surpluses_in None ward bundles lots stages = []
+surpluses_in (Some poll) ward bundles lots stages = surpluses_of (numbers_of ward) ward.seats bundles lots stages
+
 -- a text of a count: the stage sheet, the declaration, the page with the given title, the table, the result as JSON, or the ballots with the lots
 pub data TextEntry : Type 0 where
   sheet_asked : TextEntry
@@ -136,7 +143,8 @@ text_of text.Ballots = ballots_asked
 abbrev pub text_shown : TextEntry → SheetEntry → List Bundle → List (ℕ × ℕ) → WardCount → Text
 text_shown sheet_asked ward bundles lots count = sheet ward count.stages.items
 text_shown declaration_asked ward bundles lots count = if is_finished count.end then declaration ward count.elected else []
-text_shown (page_asked title) ward bundles lots count = page ward title (is_finished count.end) count.stages.items (lots_in ward.poll lots)
+text_shown (page_asked title) ward bundles lots count =
+    page ward title (is_finished count.end) count.stages.items (lots_in ward.poll lots) (surpluses_in ward.poll ward bundles lots (length count.stages.items))
 text_shown table_asked ward bundles lots count = spreadsheet ward count.stages.items
 text_shown results_asked ward bundles lots count = results ward (is_finished count.end) count.stages.items (lots_in ward.poll lots)
 text_shown ballots_asked ward bundles lots count = ballots ward bundles (lots_in ward.poll lots)

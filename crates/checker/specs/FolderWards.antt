@@ -1,12 +1,12 @@
 -- The wards of a folder as the checker makes them again.
-use Rattle.std.specs.Prelude.{◌≡◌, ℕ, Bool, List, map, option_map, Some, string_bytes}
+use Rattle.std.specs.Prelude.{◌≡◌, ℕ, Bool, List, length, map, option_map, Some, string_bytes}
 use Rattle.std.specs.List.{All}
 use Rattle.publication.specs.Election.{ElectionEntry, WardEntry}
 use Rattle.sheet.specs.Index.{ListedEntry, index, listed}
 use Rattle.count.specs.Bundles.{Bundle}
 use Rattle.count.specs.declared.stages.Stage.{Stage}
 use Rattle.sheet.specs.Entries.{SheetEntry}
-use Rattle.checker.specs.Counts.{IsWardCount, lots_in}
+use Rattle.checker.specs.Counts.{IsWardCount, lots_in, surpluses_in}
 use Rattle.checker.specs.Folders.{AreShown, FolderWard, IsSealed, MayEnd, SealedEntry, UnsealedEntry, is_sealed, is_unsealed, listed_as, listed_of, sealed_in, texts_as, texts_of}
 use Rattle.checker.specs.Reading.{ReaderEntry}
 use Rattle.checker.specs.Wards.{ward_told}
@@ -36,7 +36,7 @@ pub record IsCountMade (title : Text) (ward : SheetEntry) (bundles : List Bundle
   pub counted : IsWardCount ward.poll ward bundles lots count
   pub ends : MayEnd is_declared count.end
   pub shows : AreShown is_declared count.stages.items stages
-  pub texts_are : told_texts made.texts ≡ texts_as title ward bundles (lots_in ward.poll lots) stages count.elected is_declared
+  pub texts_are : told_texts made.texts ≡ texts_as title ward bundles (lots_in ward.poll lots) stages (surpluses_in ward.poll ward bundles lots (length stages)) count.elected is_declared
   pub listed_is : listed made.listed ≡ listed_as ward count.elected is_declared
 
 -- the same, from the content of a file of ballots

@@ -16,7 +16,8 @@ use Rattle.sheet.specs.Results.{results}
 use Rattle.sheet.specs.Sheet.{declaration, sheet}
 use Rattle.sheet.specs.Spreadsheet.{spreadsheet}
 use Rattle.sheet.specs.declared.index.WardStanding.TheVariants as standing
-use Rattle.checker.specs.Counts.{IsWardCount, lots_in}
+use Rattle.sheet.specs.declared.surpluses.PassedOn.{PassedOn}
+use Rattle.checker.specs.Counts.{IsWardCount, lots_in, surpluses_in}
 use Rattle.checker.specs.InputFiles.{InputFiles, HoldsInside, HoldsNames}
 use Rattle.checker.specs.Reading.{ReaderEntry, read}
 use Rattle.checker.specs.Tokens.{Text}
@@ -40,12 +41,12 @@ listed_as ward elected is_declared = record {
   elected = elected_in ward.candidates elected is_declared;
 }
 
--- its texts, as the office publishes them under the given title, with its ballots; they show the given stages
-abbrev pub texts_as : Text → SheetEntry → List Bundle → List (ℕ × ℕ) → List Stage → List ℕ → Bool → WardEntry
-texts_as title ward bundles lots stages elected is_declared = record {
+-- its texts, as the office publishes them under the given title, with its ballots; they show the given stages, and the papers that passed on with their surpluses
+abbrev pub texts_as : Text → SheetEntry → List Bundle → List (ℕ × ℕ) → List Stage → List PassedOn → List ℕ → Bool → WardEntry
+texts_as title ward bundles lots stages surpluses elected is_declared = record {
   number = ward.number;
   name = ward.name;
-  page = page ward title is_declared stages lots;
+  page = page ward title is_declared stages lots surpluses;
   sheet = sheet ward stages;
   declaration = if is_declared then Some (declaration ward elected) else None;
   table = spreadsheet ward stages;
@@ -121,9 +122,13 @@ listed_of (is_unsealed w) = record {
   elected = [];
 }
 
+-- the papers that passed on with each surplus at the stages that its texts show
+abbrev pub passed_of : SealedEntry → List PassedOn
+passed_of w = surpluses_in (ward_of w).poll (ward_of w) w.reading.papers.bundles w.reading.remarks.lots (length w.stages)
+
 -- the texts of a sealed ward
 abbrev pub texts_of : Text → SealedEntry → WardEntry
-texts_of title w = texts_as title (ward_of w) w.reading.papers.bundles (lots_of w) w.stages w.count.elected w.is_declared
+texts_of title w = texts_as title (ward_of w) w.reading.papers.bundles (lots_of w) w.stages (passed_of w) w.count.elected w.is_declared
 
 -- what is published of the wards under the given title
 abbrev pub election_of : Text → List FolderWard → ElectionEntry

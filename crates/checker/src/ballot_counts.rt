@@ -1,10 +1,10 @@
 //! The count of a file of ballots, and the texts of that count.
 
-ghost use Rattle.std.specs.Prelude.{◌≡◌, option_map, string_bytes, IfOk, IfErr};
+ghost use Rattle.std.specs.Prelude.{◌≡◌, length, option_map, string_bytes, IfOk, IfErr};
 ghost use Rattle.sheet.specs.Entries.{shown};
 ghost use Rattle.sheet.specs.Wards.{CanBePrinted};
 ghost use Rattle.checker.specs.Counts.{IsCountedText, IsLotLine, IsNoLotLine, IsReadingText, IsReadingUncounted, IsUncounted};
-ghost use Rattle.checker.specs.Counts.{IsWardText, IsWardUncounted, declaration_asked, is_finished, lots_in, text_of, text_shown};
+ghost use Rattle.checker.specs.Counts.{IsWardCount, IsWardText, IsWardUncounted, declaration_asked, is_finished, lots_in, page_asked, surpluses_in, text_of, text_shown};
 ghost use Rattle.checker.specs.Reading.{read};
 ghost use Rattle.checker.specs.RecordViews.{ward_told};
 ghost use Rattle.checker.specs.Records.{read_records};
@@ -18,10 +18,11 @@ use crate::problem::Problem;
 use crate::reading::read;
 use crate::records::read_records;
 use crate::records_ward::RecordsWard;
-use crate::wards::{Election, candidates_of, ward_in};
+use crate::wards::{Election, candidates_of, numbers_of, ward_in};
 use count::CountEnd;
 use sheet::{
-    ballots_text, declaration_text, page_text, results_text, sheet_text, spreadsheet_text,
+    CountShown, PassedOn, ballots_text, declaration_text, page_text, results_text, sheet_text,
+    spreadsheet_text, surpluses_of,
 };
 use std::alloc::{AllocError, Global};
 
@@ -91,6 +92,50 @@ fn declared(alloc: Global, election: &Election, count: &WardCount) -> Result<Str
     declaration_text(alloc, &election.ward, count.elected)
 }
 
+/// Returns the papers that passed on with each surplus at the given number of stages of a ward's count; none for an uncontested
+/// ward.
+pub(crate) fn surpluses_in(
+    alloc: Global,
+    election: &Election,
+    count: &WardCount,
+    stages: usize,
+) -> Result<Vec<PassedOn>, AllocError>
+    requires ward { CanBePrinted election.now.ward }
+    requires counted { IsWardCount election.now.ward.poll (shown election.now.ward) election.now.bundles.now election.now.lots.now count.now }
+    ensures { IfOk result (λ found. found.items ≡ surpluses_in election.now.ward.poll (shown election.now.ward) election.now.bundles.now election.now.lots.now stages) }
+{
+    // called for its postcondition alone: the count is the ward's
+    let _ = count.stages.len();
+    match election.ward.poll {
+        None => Ok(Vec::new(alloc)),
+        Some(_) => {
+            let ward = &election.ward;
+            let (bundles, lots) = (election.bundles, election.lots);
+            surpluses_of(alloc, numbers_of(ward), ward.seats, bundles, lots, stages)
+        }
+    }
+}
+
+/// Returns the page of the count of a ward.
+fn page_of(
+    alloc: Global,
+    election: &Election,
+    count: &WardCount,
+    title: &str,
+) -> Result<String, AllocError>
+    requires ward { CanBePrinted election.now.ward }
+    requires counted { IsWardCount election.now.ward.poll (shown election.now.ward) election.now.bundles.now election.now.lots.now count.now }
+    ensures { IfOk result (λ told. string_bytes told ≡ text_shown (page_asked title.now) (shown election.now.ward) election.now.bundles.now election.now.lots.now count.now) }
+{
+    let surpluses = surpluses_in(alloc, election, count, count.stages.len())?;
+    let shown = CountShown {
+        stages: &count.stages,
+        lots: lots_in(election),
+        surpluses: &surpluses,
+    };
+    page_text(alloc, &election.ward, title, is_finished(count.end), &shown)
+}
+
 /// Returns a text of the count of a ward.
 fn text_of(
     alloc: Global,
@@ -98,24 +143,15 @@ fn text_of(
     count: &WardCount,
     text: &CountText,
 ) -> Result<String, AllocError>
-    requires { CanBePrinted election.now.ward }
+    requires ward { CanBePrinted election.now.ward }
+    requires counted { IsWardCount election.now.ward.poll (shown election.now.ward) election.now.bundles.now election.now.lots.now count.now }
     ensures { IfOk result (λ told. string_bytes told ≡ text_shown (text_of text.now) (shown election.now.ward) election.now.bundles.now election.now.lots.now count.now) }
 {
     let ward = &election.ward;
     match text {
         CountText::Sheet => sheet_text(alloc, ward, &count.stages),
         CountText::Declaration => declared(alloc, election, count),
-        CountText::Page(title) => {
-            let is_declared = is_finished(count.end);
-            page_text(
-                alloc,
-                ward,
-                *title,
-                is_declared,
-                &count.stages,
-                lots_in(election),
-            )
-        }
+        CountText::Page(title) => page_of(alloc, election, count, *title),
         CountText::Table => spreadsheet_text(alloc, ward, &count.stages),
         CountText::Results => {
             let is_declared = is_finished(count.end);

@@ -7,18 +7,15 @@ ghost use Rattle.sheet.specs.Entries.{shown};
 ghost use Rattle.sheet.specs.Index.{elected_shown, listed};
 ghost use Rattle.sheet.specs.Sheet.{declaration};
 ghost use Rattle.sheet.specs.Wards.{CanBePrinted};
-ghost use Rattle.checker.specs.Counts.{lots_in};
 ghost use Rattle.checker.specs.Folders.{elected_in, listed_as, texts_as};
 ghost use Rattle.checker.specs.FolderWards.{told_texts};
 
-use crate::ballot_counts::lots_in;
 use crate::wards::Election;
-use count::Stage;
 use paper::Columns;
 use publication::WardTexts;
 use sheet::{
-    ListedWard, Ward, WardStanding, ballots_text, declaration_text, page_text, results_text,
-    sheet_text, spreadsheet_text,
+    CountShown, ListedWard, Ward, WardStanding, ballots_text, declaration_text, page_text,
+    results_text, sheet_text, spreadsheet_text,
 };
 use std::alloc::{AllocError, Global};
 
@@ -51,27 +48,27 @@ fn declaration_if(
     Ok(Some(declaration_text(alloc, ward, elected)?))
 }
 
-/// Returns the texts of a ward under the given title, showing the given stages.
+/// Returns the texts of a ward under the given title, showing the given part of its count.
 pub(crate) fn sealed_texts(
     alloc: Global,
     title: &str,
     election: &Election,
-    stages: &[Stage],
+    count: &CountShown,
     elected: Columns,
     is_declared: bool,
 ) -> Result<SealedTexts, AllocError>
     requires { CanBePrinted election.now.ward }
     ensures { let e = election.now in IfOk result (λ texts. told_texts texts
-        ≡ texts_as title.now (shown e.ward) e.bundles.now (lots_in e.ward.poll e.lots.now) stages.now elected is_declared) }
+        ≡ texts_as title.now (shown e.ward) e.bundles.now count.now.lots.now count.now.stages.now count.now.surpluses.now elected is_declared) }
 {
     let ward = &election.ward;
-    let lots = lots_in(election);
-    let page = page_text(alloc, ward, title, is_declared, stages, lots)?;
+    let stages = count.stages;
+    let page = page_text(alloc, ward, title, is_declared, count)?;
     let sheet = sheet_text(alloc, ward, stages)?;
     let declaration = declaration_if(alloc, ward, elected, is_declared)?;
     let table = spreadsheet_text(alloc, ward, stages)?;
-    let results = results_text(alloc, ward, is_declared, stages, lots)?;
-    let ballots = ballots_text(alloc, ward, election.bundles, lots)?;
+    let results = results_text(alloc, ward, is_declared, stages, count.lots)?;
+    let ballots = ballots_text(alloc, ward, election.bundles, count.lots)?;
     let name = String::from_str(alloc, ward.name)?;
     Ok(SealedTexts {
         number: ward.number,

@@ -7,6 +7,7 @@ ghost use Rattle.checker.specs.Folders.{AreShown, MayEnd};
 ghost use Rattle.checker.specs.FolderWards.{IsCountMade, IsReadingMade, IsWardMade};
 ghost use Rattle.checker.specs.Values.{ballots_of};
 
+use crate::ballot_counts::{lots_in, surpluses_in};
 use crate::counting::count_of;
 use crate::differences::first_difference;
 use crate::file_content::WardBallots;
@@ -15,7 +16,7 @@ use crate::problem::Problem;
 use crate::reading::read;
 use crate::wards::{Election, candidates_of, ward_in};
 use count::{CountEnd, Stage};
-use sheet::ListedWard;
+use sheet::{CountShown, ListedWard};
 use std::alloc::Global;
 
 /// A sealed ward: its texts, and what the page of all wards lists of it.
@@ -88,7 +89,15 @@ fn counted_ward(
         None => {}
     }
     let stages = shown_stages(&count.stages, progress);
-    let Ok(texts) = sealed_texts(alloc, title, election, stages, count.elected, is_declared) else {
+    let Ok(surpluses) = surpluses_in(alloc, election, &count, stages.len()) else {
+        return Err(Problem::Memory);
+    };
+    let shown = CountShown {
+        stages,
+        lots: lots_in(election),
+        surpluses: &surpluses,
+    };
+    let Ok(texts) = sealed_texts(alloc, title, election, &shown, count.elected, is_declared) else {
         return Err(Problem::Memory);
     };
     match listed_ward(alloc, &election.ward, &count.elected, is_declared) {

@@ -408,8 +408,8 @@ fn published_open<S: Alter, F: PublicFolder>(
 /// Publishes the results of an open office, which stays open, in a folder. Prints how many wards and files that has, and returns the
 /// status.
 ///
-/// The folder gets the page of all wards and, for each sealed ward, its page, stage sheet, table and results, its declaration if it is
-/// declared, and its ballots if the order asks for them; and the digests of all these files. All of them show the office at one and the
+/// The folder gets the page of all wards, and the digests of all other files. Each sealed ward has its page, stage sheet, table and
+/// results; its declaration if it is declared; and its ballots if the order asks for them. All of them show the office at one and the
 /// same state: the one at which it is open. With status 0, exactly these files were put into the folder, which is public.
 ///
 /// If something has the name of the folder already, the failure is 109; if the folder can't be written, 110. Then it isn't public. If an

@@ -204,8 +204,22 @@ fn refuses(
     Ok(())
 }
 
-/// Checks that the page of the given ballots has its title, and whether it says that the result is declared.
-fn shows_page(rt: &(impl Abort + AllocGlobal), ballots: &str, declared: bool) -> Result<(), Fail> {
+/// The surpluses on the page of `BALLOTS`, and on one without any.
+const SURPLUSES: &str = r##"<h2>Surpluses</h2>
+<ul>
+<li>Stage 2, surplus of 1 <bdi>Ann</bdi>, 2.00000 of 6.00000 votes: 6 papers received at 1.00000 pass on at 0.33333.</li>
+</ul>
+"##;
+
+const NO_SURPLUS: &str = "<h2>Surpluses</h2>\n<p>No surplus was transferred.</p>\n";
+
+/// Checks that the page of the given ballots has its title and the given surpluses, and whether it says that the result is declared.
+fn shows_page(
+    rt: &(impl Abort + AllocGlobal),
+    ballots: &str,
+    declared: bool,
+    surpluses: &str,
+) -> Result<(), Fail> {
     let text = CountText::Page("A <title>");
     let page = counted(rt.alloc(), ballots, &[], &text)?;
     assert!(rt; page.text.as_str().starts_with("<!DOCTYPE html>\n"));
@@ -215,6 +229,7 @@ fn shows_page(rt: &(impl Abort + AllocGlobal), ballots: &str, declared: bool) ->
             .contains("<p class=\"title\" dir=\"auto\">A &lt;title&gt;</p>\n")
     );
     assert!(rt; page.text.as_str().contains("<strong>Declared</strong>") == declared);
+    assert!(rt; page.text.as_str().contains(surpluses));
     Ok(())
 }
 
@@ -423,7 +438,7 @@ fn ballots_are_counted(rt: HostRuntime) -> Result<(), Fail> {
     for case in &NOT_COUNTED {
         refuses(&rt, case)?;
     }
-    shows_page(&rt, BALLOTS, true)?;
-    shows_page(&rt, TIED, false)?;
+    shows_page(&rt, BALLOTS, true, SURPLUSES)?;
+    shows_page(&rt, TIED, false, NO_SURPLUS)?;
     counts_records(&rt)
 }

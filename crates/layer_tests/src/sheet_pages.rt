@@ -7,13 +7,14 @@ use crate::sheet_outputs::{Printed, candidates_of, is_text, print, stage_of, thr
 use count::{Action, Stage};
 use paper::Columns;
 use sheet::{
-    ListedWard, Poll, Ward, WardStanding, can_be_printed, index_text, page_text, write_index,
-    write_page,
+    CountShown, ListedWard, PassedOn, Poll, Ward, WardStanding, can_be_printed, index_text,
+    page_text, write_index, write_page,
 };
 use std::alloc::{AllocError, Global};
 use std::process::Abort;
 use std::test::Fail;
 use streams::{Broken, Sink};
+use votes::Votes;
 
 /// The text before the style, on a page with a title.
 const TITLED_HEAD: &str = r##"<!DOCTYPE html>
@@ -75,6 +76,11 @@ const DECLARED: &str = r##"
 </ul>
 <ul>
 <li>Lot at stage 3 between 2 <bdi>&quot;Bob&quot; &amp; &#39;Co&#39;</bdi>: excluded 2 <bdi>&quot;Bob&quot; &amp; &#39;Co&#39;</bdi></li>
+</ul>
+<h2>Surpluses</h2>
+<ul>
+<li>Stage 2, surplus of 1 <bdi>Ann &lt;b&gt;</bdi>, 2.00000 of 6.00000 votes: 5 papers received at 1.00000 pass on at 0.33333.</li>
+<li>Stage 2, surplus of 1 <bdi>Ann &lt;b&gt;</bdi>, 2.00000 of 6.00000 votes: 1 paper received at 0.50000 passes on at 0.16666.</li>
 </ul>
 </div>
 </div>
@@ -166,6 +172,8 @@ const NO_STAGE: &str = r##"
 <ul>
 </ul>
 <p>No lot was drawn.</p>
+<h2>Surpluses</h2>
+<p>No surplus was transferred.</p>
 </div>
 </div>
 <h2>Stages</h2>
@@ -294,8 +302,7 @@ struct WardPage<'a> {
     ward: &'a Ward<'a>,
     title: &'a str,
     is_declared: bool,
-    stages: &'a [Stage],
-    lots: &'a [(u8, u8)],
+    count: CountShown<'a>,
 }
 
 impl<'a> Printed for WardPage<'a> {
@@ -303,16 +310,14 @@ impl<'a> Printed for WardPage<'a> {
         if !can_be_printed(self.ward) {
             return Err(Fail::from("no ward that can be printed"));
         }
-        let (stages, lots) = (self.stages, self.lots);
-        Ok(page_text(alloc, self.ward, self.title, self.is_declared, stages, lots)?)
+        Ok(page_text(alloc, self.ward, self.title, self.is_declared, &self.count)?)
     }
 
     fn write<W: Sink>(&self, sink: &mut W) -> Result<(), Broken> {
         if !can_be_printed(self.ward) {
             return Err(Broken);
         }
-        let (stages, lots) = (self.stages, self.lots);
-        write_page(sink, self.ward, self.title, self.is_declared, stages, lots)
+        write_page(sink, self.ward, self.title, self.is_declared, &self.count)
     }
 }
 
@@ -413,8 +418,11 @@ fn undeclared<'a>(ward: &'a Ward<'a>, stages: &'a [Stage], lots: &'a [(u8, u8)])
         ward,
         title: "",
         is_declared: false,
-        stages,
-        lots,
+        count: CountShown {
+            stages,
+            lots,
+            surpluses: &[],
+        },
     }
 }
 
@@ -521,6 +529,19 @@ fn prints_ties(rt: &(impl Abort + AllocGlobal), candidates: &[(u8, String)]) -> 
     )
 }
 
+/// Returns papers that pass on with the surplus of candidate 1 at stage 2.
+fn passed_on(papers: u32, received: u64, passed: u64) -> PassedOn {
+    PassedOn {
+        stage: 2,
+        candidate: 1,
+        surplus: Votes::from_units(200000),
+        votes: Votes::from_units(600000),
+        papers,
+        received: Votes::from_units(received),
+        passed: Votes::from_units(passed),
+    }
+}
+
 /// Prints the page of a declared ward, and its pages before the first stage and after later ones.
 fn prints_contested(
     rt: &(impl Abort + AllocGlobal),
@@ -528,12 +549,16 @@ fn prints_contested(
 ) -> Result<(), Fail> {
     let ward = with_rejected(candidates);
     let stages = three_stages();
+    let surpluses = [passed_on(5, 100000, 33333), passed_on(1, 50000, 16666)];
     let printed = WardPage {
         ward: &ward,
         title: TITLE,
         is_declared: true,
-        stages: &stages,
-        lots: &[(3, 2)],
+        count: CountShown {
+            stages: &stages,
+            lots: &[(3, 2)],
+            surpluses: &surpluses,
+        },
     };
     prints_page(rt, &printed, TITLED_HEAD, DECLARED)?;
     prints_tables_and_lots(rt, candidates)?;
@@ -553,8 +578,11 @@ fn prints_uncontested(
         ward: &ward,
         title: "",
         is_declared: true,
-        stages: &stages,
-        lots: &[],
+        count: CountShown {
+            stages: &stages,
+            lots: &[],
+            surpluses: &[],
+        },
     };
     prints_page(rt, &printed, HEAD, UNCONTESTED)?;
     prints_page(rt, &undeclared(&ward, &[], &[]), HEAD, NOT_DECLARED)

@@ -1,10 +1,14 @@
 -- Proofs that the texts of a textual election can be printed, and that the election of every ward of a state is textual.
-use Rattle.std.proofs.Common.{◌≡◌, ℕ, ◌≤◌, ◌&&◌, nat_le, ◌==◌, Bool, true, false, List, [], ◌∷◌, length, map, Option, Some, None, if◌then◌else◌, string_bytes, String, refl, sym, subst, ap, ◌∙◌}
+use Rattle.std.proofs.Common.{◌≡◌, ℕ, ◌≤◌, ◌&&◌, nat_le, ◌==◌, Bool, true, false, List, [], ◌∷◌, length, map, Option, Some, None, cond, if◌then◌else◌, string_bytes, String, refl, sym, subst, ap, ◌∙◌}
 use Rattle.std.specs.List.{list_all}
 use Rattle.std.specs.declared.alloc.Global.{Global}
 use Rattle.std.proofs.lemmas.Bool.{and_parts, leb-true}
 use Rattle.votes.specs.Units.{max_seats, max_papers}
 use Rattle.paper.specs.Columns.{IsCandidateSet}
+use Rattle.count.specs.Bundles.{Bundle, bundled, papers_of}
+use Rattle.count.specs.Law.Contest.{IsContest, contest_for}
+use Rattle.sheet.specs.Surpluses.{surpluses_of}
+use Rattle.sheet.specs.declared.surpluses.PassedOn.{PassedOn}
 use Rattle.sheet.specs.declared.ward.Poll.{Poll}
 use Rattle.sheet.specs.declared.ward.Ward.{Ward}
 use Rattle.sheet.specs.Entries.{SheetEntry, shown}
@@ -12,11 +16,11 @@ use Rattle.sheet.specs.Wards.{HasFewPapers, CanBePrinted}
 use Rattle.register.specs.Ranges.{is_ward_number, is_seat_number, is_candidate_number, is_name}
 use Rattle.register.specs.Offices.{WardEntry, CandidateEntry, OfficeState, ward_compared, ward_at, candidates_of}
 use Rattle.register.specs.Marks.{columns_of}
-use Rattle.register.specs.Elections.{ElectionEntry, election_of, has_count}
+use Rattle.register.specs.Elections.{ElectionEntry, election_of, has_count, is_counted, is_in_count}
 use Rattle.register.specs.StateConditions.{is_ward, is_candidate, IsState}
 use Rattle.register.proofs.MapLemmas.{kept_all, found_passes, list_all_weaker}
 use Rattle.register.proofs.ContestLemmas.{columns_are_set, seats_and_papers_are_few, contest_is_fair}
-use Rattle.office.specs.Sheets.{candidate_shown, poll_shown, shown_with, is_numbered, IsTextual}
+use Rattle.office.specs.Sheets.{bundles_shown, candidate_shown, lots_shown, poll_shown, shown_with, stages_shown, surpluses_shown, is_numbered, IsTextual}
 
 -- ---- what can be printed
 
@@ -79,3 +83,24 @@ state_is_textual s w is columns there =
       ascending = subst IsCandidateSet columns (columns_are_set (candidates_of s w.number));
       counted = contest_is_fair s w is.in_range is.keyed is.rise there;
     }
+
+-- the papers that passed on with each surplus, if the program counts the bundles of the election with its lots
+pub surpluses_alike : (e : ElectionEntry) (found : List PassedOn) (candidates : List ℕ) (seats : ℕ) (bundles : List Bundle) (lots : List (ℕ × ℕ)) (k : ℕ) → is_in_count e ≡ true →
+    IsContest (contest_for (columns_of e.candidates) e.ward.seats (papers_of (bundled e.ballots.papers))) → candidates ≡ columns_of e.candidates → seats ≡ e.ward.seats → bundles ≡ bundles_shown e →
+    lots ≡ lots_shown e → k ≡ length (stages_shown e) →
+    (IsContest (contest_for candidates seats (papers_of bundles)) → found ≡ surpluses_of candidates seats bundles lots k) → found ≡ surpluses_shown e
+surpluses_alike e found candidates seats bundles lots k counted fair candidates_are seats_are bundles_are lots_are k_is is =
+    let has : has_count e ≡ true = (and_parts (is_counted e.ward.phase) (has_count e) counted).1 in
+    let papers : List Bundle = bundled e.ballots.papers in
+    let whole : bundles ≡ papers = bundles_are ∙ ap (λ (b : Bool). cond b papers []) has in
+    let by_candidates : IsContest (contest_for candidates e.ward.seats (papers_of papers)) =
+    subst (λ (cs : List ℕ). IsContest (contest_for cs e.ward.seats (papers_of papers))) (sym candidates_are) fair in
+    let by_seats : IsContest (contest_for candidates seats (papers_of papers)) = subst (λ (n : ℕ). IsContest (contest_for candidates n (papers_of papers))) (sym seats_are) by_candidates in
+    let by_bundles : IsContest (contest_for candidates seats (papers_of bundles)) = subst (λ (bs : List Bundle). IsContest (contest_for candidates seats (papers_of bs))) (sym whole) by_seats in
+    is by_bundles
+    ∙ ap (λ (cs : List ℕ). surpluses_of cs seats bundles lots k) candidates_are
+    ∙ ap (λ (n : ℕ). surpluses_of (columns_of e.candidates) n bundles lots k) seats_are
+    ∙ ap (λ (bs : List Bundle). surpluses_of (columns_of e.candidates) e.ward.seats bs lots k) bundles_are
+    ∙ ap (λ (l : List (ℕ × ℕ)). surpluses_of (columns_of e.candidates) e.ward.seats (bundles_shown e) l k) lots_are
+    ∙ ap (surpluses_of (columns_of e.candidates) e.ward.seats (bundles_shown e) (lots_shown e)) k_is
+    ∙ sym (ap (λ (b : Bool). cond b (surpluses_of (columns_of e.candidates) e.ward.seats (bundles_shown e) (lots_shown e) (length (stages_shown e))) []) has)

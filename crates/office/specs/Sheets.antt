@@ -13,6 +13,8 @@ use Rattle.sheet.specs.Ballots.{ballots}
 use Rattle.sheet.specs.Page.{page}
 use Rattle.sheet.specs.Results.{results}
 use Rattle.sheet.specs.Spreadsheet.{spreadsheet}
+use Rattle.sheet.specs.Surpluses.{surpluses_of}
+use Rattle.sheet.specs.declared.surpluses.PassedOn.{PassedOn}
 use Rattle.register.specs.declared.phase.Phase.{Phase}
 use Rattle.register.specs.declared.refusal.Reason.{Reason}
 use Rattle.register.specs.declared.refusal.Reason.TheVariants.{NumberOutOfRange, NoSuchWard, WrongPhase}
@@ -21,6 +23,7 @@ use Rattle.office.specs.declared.answers.ReadError.{ReadError}
 use Rattle.office.specs.declared.answers.ReadError.TheVariants.{Refused, Fault as Failed}
 use Rattle.office.specs.declared.sheets.WardText.{WardText}
 use Rattle.office.specs.declared.sheets.WardText.TheVariants.{Sheet, Declaration, Ballots, Page, Table, Results}
+use Rattle.register.specs.Marks.{columns_of}
 use Rattle.register.specs.Ranges.{last_ward, is_ward_number, is_candidate_number}
 use Rattle.register.specs.Offices.{WardEntry, CandidateEntry, OfficeState, ward_at}
 use Rattle.register.specs.Elections.{ElectionEntry, election_of, has_count, contest_of, stages_of, elected_of, is_counted, is_declared}
@@ -81,13 +84,17 @@ bundles_shown e = if has_count e then bundled e.ballots.papers else []
 abbrev pub lots_shown : ElectionEntry → List (ℕ × ℕ)
 lots_shown e = if has_count e then e.lots else []
 
+-- the papers that passed on with each surplus in the stages done so far
+abbrev pub surpluses_shown : ElectionEntry → List PassedOn
+surpluses_shown e = if has_count e then surpluses_of (columns_of e.candidates) e.ward.seats (bundles_shown e) (lots_shown e) (length (stages_shown e)) else []
+
 -- the ballots, in a file format that counting programs share
 abbrev pub ballots_of : ElectionEntry → List ℕ
 ballots_of e = ballots (election_shown e) (bundles_shown e) (lots_shown e)
 
 -- the result as a page to print and sign, with a title, if it is declared; before that, the progress of the count
 abbrev pub result_page_of : List ℕ → ElectionEntry → List ℕ
-result_page_of title e = page (election_shown e) title (is_declared e.ward.phase) (stages_shown e) (lots_shown e)
+result_page_of title e = page (election_shown e) title (is_declared e.ward.phase) (stages_shown e) (lots_shown e) (surpluses_shown e)
 
 -- the stages as a table for a spreadsheet
 abbrev pub table_of : ElectionEntry → List ℕ

@@ -10,14 +10,14 @@ ghost use Rattle.register.specs.Tabulated.{IsCountedWard, IsSheetOf};
 ghost use Rattle.sheet.specs.Entries.{shown};
 ghost use Rattle.sheet.specs.Wards.{HasFewPapers, CanBePrinted};
 ghost use Rattle.office.specs.Sheets.{is_numbered, IsTextual, candidate_shown, poll_shown, shown_with, election_shown, declaration_of};
-ghost use Rattle.office.specs.Sheets.{stages_shown, bundles_shown, lots_shown, text_shown, is_printable_in};
+ghost use Rattle.office.specs.Sheets.{stages_shown, bundles_shown, lots_shown, surpluses_shown, result_page_of, text_shown, is_printable_in};
 
-use count::{Bundles, Stage};
+use count::{Bundles, Stage, bundles_count_alike};
 use register::marks::columns_of;
 use register::{Candidate, CountedWard, Phase, WardSheet};
 use sheet::{
-    Poll, Ward, ballots_text, can_be_printed, declaration_text, page_text, results_text,
-    sheet_text, spreadsheet_text,
+    CountShown, PassedOn, Poll, Ward, ballots_text, can_be_printed, declaration_text, page_text,
+    results_text, sheet_text, spreadsheet_text, surpluses_of,
 };
 use std::alloc::{AllocError, Global};
 use store::elected_in;
@@ -172,6 +172,57 @@ fn lots_of(counted: &CountedWard) -> &[(u8, u8)]
     }
 }
 
+/// Returns the papers that passed on with each surplus in a ward's count; an uncontested ward has none.
+fn surpluses_in(
+    alloc: Global,
+    counted: &CountedWard,
+    ward: &Ward,
+) -> Result<Vec<PassedOn>, AllocError>
+    ensures { IfOk result (λ found. (e : ElectionEntry) → IsCountedWard e counted.now → is_counted e.ward.phase ≡ true
+        → shown ward.now ≡ election_shown e → found.items ≡ surpluses_shown e) }
+{
+    // called for its law that the bundles of a ward's papers can be counted if the papers can
+    bundles_count_alike();
+    let none = Bundles::new(alloc);
+    match &counted.count {
+        None => Ok(Vec::new(alloc)),
+        Some(count) => {
+            let candidates = count.kept.candidates();
+            let bundles = bundles_of(counted, &none);
+            let stages = stages_of(counted).len();
+            surpluses_of(
+                alloc,
+                candidates,
+                ward.seats,
+                bundles,
+                lots_of(counted),
+                stages,
+            )
+        }
+    }
+}
+
+/// Returns the page of a ward that was read, given what the page shows of it.
+fn write_page(
+    alloc: Global,
+    counted: &CountedWard,
+    ward: &Ward,
+    title: &str,
+) -> Result<String, AllocError>
+    requires { CanBePrinted ward.now }
+    ensures { IfOk result (λ told. (e : ElectionEntry) → IsCountedWard e counted.now → is_counted e.ward.phase ≡ true
+        → shown ward.now ≡ election_shown e → string_bytes told ≡ result_page_of title.now e) }
+{
+    let is_declared = WardText::Declaration.is_printable_in(counted.ward.phase);
+    let surpluses = surpluses_in(alloc, counted, ward)?;
+    let count = CountShown {
+        stages: stages_of(counted),
+        lots: lots_of(counted),
+        surpluses: &surpluses,
+    };
+    page_text(alloc, ward, title, is_declared, &count)
+}
+
 /// Returns a text of a ward that was read, given what the text shows.
 fn write_text(
     alloc: Global,
@@ -190,17 +241,7 @@ fn write_text(
             let none = Bundles::new(alloc);
             ballots_text(alloc, ward, bundles_of(counted, &none), lots_of(counted))
         }
-        WardText::Page(title) => {
-            let is_declared = WardText::Declaration.is_printable_in(counted.ward.phase);
-            page_text(
-                alloc,
-                ward,
-                title,
-                is_declared,
-                stages_of(counted),
-                lots_of(counted),
-            )
-        }
+        WardText::Page(title) => write_page(alloc, counted, ward, title),
         WardText::Table => spreadsheet_text(alloc, ward, stages_of(counted)),
         WardText::Results => {
             let is_declared = WardText::Declaration.is_printable_in(counted.ward.phase);

@@ -14,6 +14,8 @@ pub mod Ties
 mod WorkedLots
 pub mod TieLaw
 mod SettledLaw
+pub mod SurplusLemmas
 pub mod Appended
 pub mod ResultsBack
 mod WorkedResults
+mod WorkedSurpluses

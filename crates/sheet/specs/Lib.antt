@@ -14,6 +14,7 @@ pub mod Chart
 pub mod Table
 pub mod Lots
 pub mod Ties
+pub mod Surpluses
 pub mod Page
 pub mod Index
 pub mod Spreadsheet

@@ -11,8 +11,10 @@ use Rattle.sheet.specs.Entries.{SheetEntry}
 use Rattle.sheet.specs.Lines.{line, plain, named}
 use Rattle.sheet.specs.Look.{style}
 use Rattle.sheet.specs.Lots.{lots_text}
+use Rattle.sheet.specs.Surpluses.{surpluses_text}
 use Rattle.sheet.specs.Ties.{ties_text}
 use Rattle.sheet.specs.Table.{tables}
+use Rattle.sheet.specs.declared.surpluses.PassedOn.{PassedOn}
 use Rattle.sheet.specs.declared.ward.Poll.{Poll}
 
 -- ---- the head
@@ -145,11 +147,11 @@ stages_part ward stages =
     if length stages == 0 then line (codes "</div>\n</div>\n<h2>Stages</h2>\n<p>No stage is done yet.</p>" ∷ [])
     else line (codes "</div>\n</div>\n<h2>Stages</h2>" ∷ []) ++ tables ward stages
 
--- what the result of a ward is based on: the chart, its papers, the ties and lots, and the stages
-abbrev pub grounds : SheetEntry → Option Poll → List Stage → List (ℕ × ℕ) → List ℕ
-grounds ward None stages lots = uncontested_text ward.seats
-grounds ward (Some poll) stages lots =
-    chart_part ward poll stages ++ papers_table ward.seats poll ++ ties_text ward stages ++ lots_text ward stages lots ++ stages_part ward stages
+-- what the result of a ward is based on: the chart, its papers, the ties and lots, the surpluses, and the stages
+abbrev pub grounds : SheetEntry → Option Poll → List Stage → List (ℕ × ℕ) → List PassedOn → List ℕ
+grounds ward None stages lots surpluses = uncontested_text ward.seats
+grounds ward (Some poll) stages lots surpluses =
+    chart_part ward poll stages ++ papers_table ward.seats poll ++ ties_text ward stages ++ lots_text ward stages lots ++ surpluses_text ward surpluses ++ stages_part ward stages
 
 -- ---- the foot
 
@@ -166,7 +168,8 @@ abbrev pub foot : SheetEntry → Bool → List Stage → List ℕ
 foot ward true stages = signatures ward stages
 foot ward false stages = codes "</body>\n</html>\n"
 
--- the page of a ward: its title, whether it is declared, the stages of its count, and the lots drawn, each a stage and a candidate
-abbrev pub page : SheetEntry → List ℕ → Bool → List Stage → List (ℕ × ℕ) → List ℕ
-page ward title is_declared stages lots =
-    page_head ward title is_declared ++ elected_text ward is_declared stages ++ grounds ward ward.poll stages lots ++ foot ward is_declared stages
+-- the page of a ward: its title, whether it is declared, the stages of its count, the lots drawn, each a stage and a candidate, and the papers that passed on with each
+-- surplus
+abbrev pub page : SheetEntry → List ℕ → Bool → List Stage → List (ℕ × ℕ) → List PassedOn → List ℕ
+page ward title is_declared stages lots surpluses =
+    page_head ward title is_declared ++ elected_text ward is_declared stages ++ grounds ward ward.poll stages lots surpluses ++ foot ward is_declared stages

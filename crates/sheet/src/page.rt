@@ -14,11 +14,24 @@ use crate::line::{Piece, write_line, write_text};
 use crate::look::style;
 use crate::lots::write_lots;
 use crate::settled_ties::write_ties;
+use crate::surplus_lines::write_surpluses;
+use crate::surpluses::PassedOn;
 use crate::table::write_tables;
 use crate::ward::{Poll, Ward};
 use count::Stage;
 use streams::{Broken, Sink};
 use votes::quota;
+
+/// What a page shows of the count of a ward.
+#[derive(Clone, Copy)]
+pub struct CountShown<'a> {
+    /// The stages so far, in order.
+    pub stages: &'a [Stage],
+    /// The lots drawn, each a stage and a candidate.
+    pub lots: &'a [(u8, u8)],
+    /// The papers that passed on with each surplus, as [`surpluses_of`](crate::surpluses_of) returns them.
+    pub surpluses: &'a [PassedOn],
+}
 
 // ---- the head
 
@@ -220,25 +233,21 @@ fn write_stages_part<W: Sink>(sink: &mut W, ward: &Ward, stages: &[Stage]) -> Re
     write_tables(sink, ward, stages)
 }
 
-/// Writes what the result of a ward is based on: the chart, its papers, the ties and lots, and the stages.
-fn write_grounds<W: Sink>(
-    sink: &mut W,
-    ward: &Ward,
-    stages: &[Stage],
-    lots: &[(u8, u8)],
-) -> Result<(), Broken>
+/// Writes what the result of a ward is based on: the chart, its papers, the ties and lots, the surpluses, and the stages.
+fn write_grounds<W: Sink>(sink: &mut W, ward: &Ward, count: &CountShown) -> Result<(), Broken>
     requires ward { CanBePrinted ward.now }
     requires failures { W.failed sink.old < 2 ^ 64 - 1 }
-    ensures { Writes W.taken W.failed sink.old sink.new (grounds (shown ward.now) ward.now.poll stages.now lots.now) result }
+    ensures { Writes W.taken W.failed sink.old sink.new (grounds (shown ward.now) ward.now.poll count.now.stages.now count.now.lots.now count.now.surpluses.now) result }
 {
     let Some(poll) = ward.poll else {
         return write_uncontested(sink, ward.seats);
     };
-    write_chart_part(sink, ward, &poll, stages)?;
+    write_chart_part(sink, ward, &poll, count.stages)?;
     write_papers_table(sink, ward.seats, &poll)?;
-    write_ties(sink, ward, stages)?;
-    write_lots(sink, ward, stages, lots)?;
-    write_stages_part(sink, ward, stages)
+    write_ties(sink, ward, count.stages)?;
+    write_lots(sink, ward, count.stages, count.lots)?;
+    write_surpluses(sink, ward, count.surpluses)?;
+    write_stages_part(sink, ward, count.stages)
 }
 
 // ---- the foot
@@ -278,9 +287,10 @@ fn write_foot<W: Sink>(
     write_text(sink, "</body>\n</html>\n")
 }
 
-/// Writes the page of a ward, as one HTML file. It shows the title, the elected candidates, a chart of their votes, the papers, the
-/// ties that earlier stages settled, the lots drawn (each a stage and a candidate), and tables of the stages; if the ward is
-/// declared, it also has lines for signatures. An empty title is omitted. For an uncontested ward, stages and lots aren't read.
+/// Writes the page of a ward, as one HTML file. It shows the title, the elected candidates, a chart of their votes, and the papers.
+/// Then it explains the ties that earlier stages settled, the lots drawn, and the papers that passed on with each surplus. Tables of
+/// the stages follow and, if the ward is declared, lines for signatures. An empty title is omitted. For an uncontested ward, the count
+/// isn't read.
 ///
 /// Allocates nothing. `Broken` only if the sink fails; it has then accepted a prefix of the page, and its failure count is one
 /// higher.
@@ -289,15 +299,14 @@ pub fn write_page<W: Sink>(
     ward: &Ward,
     title: &str,
     is_declared: bool,
-    stages: &[Stage],
-    lots: &[(u8, u8)],
+    count: &CountShown,
 ) -> Result<(), Broken>
     requires ward { CanBePrinted ward.now }
     requires failures { W.failed sink.old < 2 ^ 64 - 1 }
-    ensures { Writes W.taken W.failed sink.old sink.new (page (shown ward.now) title.now is_declared stages.now lots.now) result }
+    ensures { Writes W.taken W.failed sink.old sink.new (page (shown ward.now) title.now is_declared count.now.stages.now count.now.lots.now count.now.surpluses.now) result }
 {
     write_page_head(sink, ward, title, is_declared)?;
-    write_elected(sink, ward, is_declared, stages)?;
-    write_grounds(sink, ward, stages, lots)?;
-    write_foot(sink, ward, is_declared, stages)
+    write_elected(sink, ward, is_declared, count.stages)?;
+    write_grounds(sink, ward, count)?;
+    write_foot(sink, ward, is_declared, count.stages)
 }

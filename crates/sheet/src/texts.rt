@@ -12,7 +12,7 @@ ghost use Rattle.sheet.specs.Wards.{CanBePrinted};
 use crate::ballots::write_ballots;
 use crate::declaration::write_declaration;
 use crate::index::{ListedWard, write_index};
-use crate::page::write_page;
+use crate::page::{CountShown, write_page};
 use crate::sheets::write_sheet;
 use crate::ward::Ward;
 use count::{Bundles, Stage};
@@ -123,14 +123,13 @@ pub fn page_text(
     ward: &Ward,
     title: &str,
     is_declared: bool,
-    stages: &[Stage],
-    lots: &[(u8, u8)],
+    count: &CountShown,
 ) -> Result<String, AllocError>
     requires { CanBePrinted ward.now }
-    ensures { IfOk result (λ text. string_bytes text ≡ page (shown ward.now) title.now is_declared stages.now lots.now) }
+    ensures { IfOk result (λ text. string_bytes text ≡ page (shown ward.now) title.now is_declared count.now.stages.now count.now.lots.now count.now.surpluses.now) }
 {
     let mut page = InMemory::new(alloc);
-    match write_page(&mut page, ward, title, is_declared, stages, lots) {
+    match write_page(&mut page, ward, title, is_declared, count) {
         Ok(()) => Ok(page.into_text()),
         Err(Broken) => Err(AllocError),
     }

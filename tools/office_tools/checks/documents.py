@@ -69,8 +69,6 @@ IDIOMS = {
 ALLOWED = {"docs/formats/ballots.md": ("a line behind the ward's name", "the line 0 behind the papers"),
            "crates/tables/src/walking.rt": ("visitor",), "crates/tables/specs/Walking.antt": ("visitor",)}
 TABLES, BOOKS = "results.md", {"officer": ["officer/"], "formats": ["formats/"], "engineering": ["engineering/", "DECISIONS"]}
-# The share of a crate in which one sentence is a few words longer.
-NEARLY = {"desk": 0.1, "sheet": 0.2}
 PLACES = "crates/*/src/**/* crates/*/specs/**/* crates/**/*.edit tools/**/* examples/**/* release/package/**/* count-office".split()
 SUFFIXES = (".rt", ".antt", ".edit", ".py", ".sh", ".bash", ".fish", ".zsh", ".service", ".js")
 SPOKEN = re.compile(r'^[ \t]*"""((?s:.*?))"""|^(?:new: )?[ \t]*(?:///|//!|//|--|#)( .*|$)|.+', re.M)
@@ -117,7 +115,7 @@ def check_plain():
     for crate in sorted((ROOT / "crates").iterdir()):
         sources = [path.read_text() for path in (*crate.glob("src/**/*.rt"), *crate.glob("specs/**/*.antt"))]
         texts = [re.sub(SIGN, "", comment, flags=re.M) for source in sources for comment in COMMENTS.findall(source)]
-        found.append(is_over(crate.name, texts, MOST_IN_COMMENTS, NEARLY.get(crate.name, 0)))
+        found.append(is_over(crate.name, texts, MOST_IN_COMMENTS, 0))
     sources = [path for place in PLACES for path in sorted(ROOT.glob(place)) if path.suffix in ("", *SUFFIXES) and path.is_file()]
     named = [line for path in (*pages(), *sources) if path.name != TABLES for line in idioms(path)]
     print(*named, sep="\n", end="\n" * bool(named))

@@ -91,7 +91,7 @@ QUOTED = "SC2016,SC1003"
 PARAMETERS, LINES, CHARACTERS = 5, 40, 200
 # The functions that are larger; and a line that is two characters too long since something in it was renamed.
 LARGE = {
-    "checker": "flaw_remedy", "count": "figured lost_from", "sheet": "style write_page write_row", "tables": "select_text",
+    "checker": "flaw_remedy", "count": "figured lost_from", "sheet": "style write_row", "tables": "select_text",
     "desk": "begin_steps count_stages follow_recorded in_office mend_open perform_recorded replay run run_part run_script run_steps "
             "second_in second_open send_all tell_numbered",
     "store_tests": "are_refused give",
