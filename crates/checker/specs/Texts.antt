@@ -57,4 +57,4 @@ problem_text problem.NoContest = codes "no more candidates than seats"
 problem_text (problem.LotNeeded stage among) = joined (codes "no lot is recorded for stage " ∷ decimal stage ∷ [])
 problem_text (problem.LotNotAmong stage) = joined (codes "the lot for stage " ∷ decimal stage ∷ codes " names none of the tied" ∷ [])
 problem_text (problem.LotNotNeeded stage) = joined (codes "a lot is recorded for stage " ∷ decimal stage ∷ codes ", and none is drawn there" ∷ [])
-problem_text problem.Memory = codes "memory is wanting"
+problem_text problem.Memory = codes "out of memory"

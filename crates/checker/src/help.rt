@@ -18,12 +18,12 @@ A folder's wards are counted again from its ballots, and all files are made agai
 byte for byte. The status is 0 if each file is exactly that, and there is nothing else. It is 1
 if not: the program prints a line for each file that is wrong, and why.
 
-For a sheet the status is 0 where the text is the very one that these ballots, rejected papers
-and lots give. It is 1 where the text differs: the program prints the first line that differs,
-and what it should be.
+For a sheet the status is 0 if the text is exactly the one that results from these ballots,
+rejected papers and lots. It is 1 if the text differs: the program prints the first line that
+differs, and what it should be.
 
-It is 2 where the words or the ballots of a sheet are not understood, or a lot is wanting. It is
-3 where the folder or a sheet's file can't be read, memory is wanting, or an output fails.
+It is 2 if the words or the ballots of a sheet are not understood, or a lot is missing. It is 3
+if the folder or a sheet's file can't be read, memory runs out, or an output fails.
 ";
 
 /// The help on counting.
@@ -56,5 +56,5 @@ Options:
 The status is 0 if the count is finished. It is 1 if a lot is needed: the program prints the
 text for the stages so far, and on standard error the stage and the tied candidates. It is 2 if
 the words or the ballots are not understood, or a lot doesn't fit the count. It is 3 if a file
-can't be read, memory is wanting, or an output fails.
+can't be read, memory runs out, or an output fails.
 ";

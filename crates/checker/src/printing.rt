@@ -55,6 +55,6 @@ pub(crate) fn print_report<O: Sink, E: Sink>(
 {
     match page_of(alloc, report) {
         Ok(page) => print_page(page.out.as_str(), page.err.as_str(), page.status, out, err),
-        Err(_) => print_page("", "error: memory is wanting\n", FAILED, out, err),
+        Err(_) => print_page("", "error: out of memory\n", FAILED, out, err),
     }
 }

@@ -180,7 +180,7 @@ impl fmt::Display for Problem {
                     "a lot is recorded for stage {stage}, and none is drawn there"
                 )
             }
-            Problem::Memory => f.write_str("memory is wanting"),
+            Problem::Memory => f.write_str("out of memory"),
         }
     }
 }

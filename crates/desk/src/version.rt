@@ -7,7 +7,7 @@ ghost use Rattle.desk.specs.Versions.{version_text};
 use std::alloc::{AllocError, Global};
 
 /// The version of the program. It is defined only here; the scripts that build a release read it from this line.
-pub const VERSION: &str = "1.13.0";
+pub const VERSION: &str = "1.14.0";
 
 /// Returns the version of the offices that the program creates and opens, which is the version of their tables.
 fn office_version() -> u32

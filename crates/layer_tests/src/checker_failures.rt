@@ -115,7 +115,7 @@ fn asks(rt: &(impl Abort + AllocGlobal), words: &str, told: &(&str, &str, u8)) -
 }
 
 /// The checker's output if an allocation fails.
-const MEMORY: (&str, &str, u8) = ("", "error: memory is wanting\n", 3);
+const MEMORY: (&str, &str, u8) = ("", "error: out of memory\n", 3);
 
 /// The checker's output if a file can't be read.
 const UNREAD: (&str, &str, u8) = ("", "error: no?ne can't be read: there is none\n", 3);
