@@ -96,7 +96,7 @@ AsksSo whole recorded words (asked.Refused failure) =
     ((failure ≡ BeingServed) × ((o : Order) × MeansOrder words o × IsForNone o))
     ⊎ (((failure ≡ FileGone) × ((job : Job) × MeansOrder words (order.Perform (task.InOffice job))) × (whole ≡ Some true → ⊥))
     ⊎ ((failure ≡ SecondRecord) × ((job : Job) × MeansOrder words (order.Perform (task.InOffice job))) × (recorded ≡ true)))
-AsksSo whole recorded words (asked.Misread fault) = IsNoneMeant (meaning (subcommand_of office_words words)) fault
+AsksSo whole recorded words (asked.Misread fault) = (asks_for_record words ≡ false) × IsNoneMeant (meaning (subcommand_of office_words words)) fault
 
 -- No order is decoded: an allocation failed; or the bytes aren't a message of text, or the message is from another version of the program or for another file.
 abbrev pub IsUnread : FileNumbers → List ℕ → ServedOrder → Type 0
