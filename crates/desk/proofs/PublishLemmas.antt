@@ -36,10 +36,10 @@ use Rattle.office.specs.declared.sheets.WardText.{WardText}
 use Rattle.publication.specs.Election.{ElectionEntry as PublishedEntry, WardEntry as PublishedWard}
 use Rattle.publication.specs.Files.{FileEntry, file}
 use Rattle.publication.specs.Folder.{published}
+use Rattle.published_office.specs.OfficeFolder.{election_published, published_of, sealed_wards, texts_of, wards_published}
 use Rattle.desk.specs.Pages.{Page, failed, replied}
 use Rattle.desk.specs.Publications.{EndsPublishing, FailsFolder, FolderEntry, GoesPublic, HoldsPublished, IsPublishTold, IsPublished, IsPublishedAs, IsTextIf, IsUnmade, Publishes, PutsFile}
-use Rattle.desk.specs.Publications.{PutsFiles, Reads, StopsReading, can_be_published, election_published, folder_failure, published_of, published_page, published_text, sealed_wards}
-use Rattle.desk.specs.Publications.{texts_of, ward_of_overview, ward_published, wards_published}
+use Rattle.desk.specs.Publications.{PutsFiles, Reads, StopsReading, can_be_published, folder_failure, published_page, published_text, ward_of_overview, ward_published}
 use Rattle.desk.specs.declared.lines.Failure.{Failure}
 use Rattle.desk.specs.declared.lines.Failure.TheVariants.{Office}
 use Rattle.desk.specs.declared.orders.PublishOrder.{PublishOrder}

@@ -27,7 +27,8 @@ use Rattle.office.specs.Index.{index_of, listed_shown}
 use Rattle.office.specs.Sheets.{election_shown, lots_shown, result_page_of, stages_shown}
 use Rattle.publication.specs.Election.{WardEntry as PublishedWard, are_in_order, ascend_from}
 use Rattle.publication.specs.Pages.{is_page, page_end}
-use Rattle.desk.specs.Publications.{can_be_published, election_published, sealed_wards, texts_of, wards_published}
+use Rattle.published_office.specs.OfficeFolder.{election_published, sealed_wards, texts_of, wards_published}
+use Rattle.desk.specs.Publications.{can_be_published}
 
 both_true : {a b : Bool} → a ≡ true → b ≡ true → (a && b) ≡ true
 both_true {a = a} {b = b} one two = rw (one, two) refl

@@ -1,12 +1,11 @@
--- What the office publishes, the folder in which it does so, and what the order to publish prints.
+-- The folder in which the office publishes, what is read of the office for that, and what the order to publish prints.
 use Rattle.std.specs.Prelude.{◌≡◌, ◌⊎◌, ◌++◌, ◌∷◌, ◌&&◌, ⊤, ℕ, Bool, false, true, List, [], Option, Some, None, Result, Ok, IfErr, IfOk, IfSome, IsSomeAnd, OnOk}
 use Rattle.std.specs.Prelude.{codes, if◌then◌else◌, length, map, option_map, string_bytes}
 use Rattle.std.specs.Fmt.{decimal}
-use Rattle.std.specs.List.{filter}
 use Rattle.clap.specs.Words.{Text}
 use Rattle.sqlite.specs.Held.{Held}
 use Rattle.sqlite.specs.State.{State}
-use Rattle.register.specs.Elections.{ElectionEntry, election_of, is_counted, is_declared}
+use Rattle.register.specs.Elections.{election_of, is_counted}
 use Rattle.register.specs.Offices.{OfficeState, WardEntry, ward_entry}
 use Rattle.register.specs.declared.refusal.Reason.{Reason}
 use Rattle.tables.specs.Reading.{OnlyReads}
@@ -14,15 +13,13 @@ use Rattle.tables.specs.declared.fault.Fault.{Fault}
 use Rattle.tables.specs.declared.fault.Fault.TheVariants as fault
 use Rattle.store.specs.declared.overviews.wards.WardOverview.{WardOverview}
 use Rattle.office.specs.Answers.{IsMemoryOrStore, IsOpenAt, IsReadAt, WhenOpenAt}
-use Rattle.office.specs.Index.{index_of}
-use Rattle.office.specs.Sheets.{ballots_of, declaration_of, result_page_of, results_of, sheet_of, table_of}
 use Rattle.office.specs.Values.{OfficeValue}
 use Rattle.publication.specs.Election.{ElectionEntry as PublishedEntry, WardEntry as PublishedWard, are_in_order}
 use Rattle.publication.specs.Files.{FileEntry, file}
-use Rattle.publication.specs.Folder.{published}
 use Rattle.publication.specs.Pages.{are_pages}
 use Rattle.publication.specs.declared.fault.PublishFault.{PublishFault}
 use Rattle.publication.specs.declared.fault.PublishFault.TheVariants as unmade
+use Rattle.published_office.specs.OfficeFolder.{published_of, sealed_wards, texts_of}
 use Rattle.desk.specs.Pages.{Page, failed, replied}
 use Rattle.desk.specs.declared.lines.Failure.{Failure}
 use Rattle.desk.specs.declared.lines.Failure.TheVariants.{Office, Output, CopyTaken, CopyFailed, BeingServed, FileGone, SecondRecord}
@@ -31,45 +28,6 @@ use Rattle.desk.specs.declared.publishing.FolderFault.{FolderFault}
 use Rattle.desk.specs.declared.publishing.FolderFault.TheVariants as folder
 use Rattle.desk.specs.declared.publishing.ReadElection.{ReadElection}
 use Rattle.desk.specs.declared.publishing.SealedWard.{SealedWard}
-
--- ---- what is published of an office at a state
-
--- the wards whose results are published: those that are sealed
-abbrev pub sealed_wards : OfficeState → List WardEntry
-sealed_wards s = filter (λ (w : WardEntry). is_counted w.phase) s.wards
-
--- the declaration of an election, once it is declared
-abbrev pub declaration_in : ElectionEntry → Option Text
-declaration_in e = if is_declared e.ward.phase then Some (declaration_of e) else None
-
--- the ballots of an election, if they are to be published
-abbrev pub ballots_in : Bool → ElectionEntry → Option Text
-ballots_in with_ballots e = if with_ballots then Some (ballots_of e) else None
-
--- the texts of an election that are published, its page with this title
-abbrev pub texts_of : Text → Bool → ElectionEntry → PublishedWard
-texts_of title with_ballots e = record {
-  number = e.ward.number;
-  name = e.ward.name;
-  page = result_page_of title e;
-  sheet = sheet_of e;
-  declaration = declaration_in e;
-  table = table_of e;
-  results = results_of e;
-  ballots = ballots_in with_ballots e;
-}
-
--- what is published of each sealed ward
-abbrev pub wards_published : Text → Bool → OfficeState → List PublishedWard
-wards_published title with_ballots s = map (λ (w : WardEntry). texts_of title with_ballots (election_of s w)) (sealed_wards s)
-
--- what is published of the office: the page of all wards, and the texts of each sealed ward, all of them at the same state
-abbrev pub election_published : Text → Bool → OfficeState → PublishedEntry
-election_published title with_ballots s = record { title = title; index = index_of title s; wards = wards_published title with_ballots s }
-
--- the files of the folder, given the title, whether it has the ballots, and the state
-abbrev pub published_of : Text → Bool → OfficeState → List FileEntry
-published_of title with_ballots s = published (election_published title with_ballots s)
 
 -- ---- the folder
 

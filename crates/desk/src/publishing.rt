@@ -13,10 +13,10 @@ ghost use Rattle.office.specs.Sheets.{text_answer};
 ghost use Rattle.publication.specs.Election.{ward_entry as text_entry};
 ghost use Rattle.publication.specs.Files.{file_entry};
 ghost use Rattle.publication.specs.Folder.{published};
+ghost use Rattle.published_office.specs.OfficeFolder.{election_published, published_of, texts_of, wards_published};
 ghost use Rattle.desk.specs.Pages.{Tells, failed, outputs_of, page_of, replied};
 ghost use Rattle.desk.specs.Publications.{FailsFolder, HoldsPublished, IsPublished, IsPublishedAs, IsTextIf, IsUnmade, Publishes, PutsFiles, Reads};
-ghost use Rattle.desk.specs.Publications.{election_published, election_read, folder_failure, published_of, published_text, sealed_entry, texts_of, unmade_failure};
-ghost use Rattle.desk.specs.Publications.{ward_of_overview, ward_published, wards_published};
+ghost use Rattle.desk.specs.Publications.{election_read, folder_failure, published_text, sealed_entry, unmade_failure, ward_of_overview, ward_published};
 ghost use Rattle.desk.specs.declared.lines.Failure.{Failure};
 
 use crate::lines::{LineOutcome, tell};

@@ -1,7 +1,8 @@
 -- Proof that `publish_open` meets its contract.
 use Rattle.sqlite.specs.Held.{state}
+use Rattle.published_office.specs.OfficeFolder.{published_of}
 use Rattle.desk.specs.Pages.{outputs_of, page_of}
-use Rattle.desk.specs.Publications.{StopsReading, published_of, published_page}
+use Rattle.desk.specs.Publications.{StopsReading, published_page}
 use Rattle.desk.proofs.PublishLemmas.{published_at_zero}
 use Rattle.desk.proofs.TellingLemmas.{shown_zero}
 use Rattle.desk.proofs.publishing.publish_open.Goals as goal

@@ -6,7 +6,8 @@ use Rattle.register.specs.Elections.{ElectionEntry, election_of}
 use Rattle.register.specs.Offices.{OfficeState, ward_entry}
 use Rattle.office.specs.Sheets.{declaration_of}
 use Rattle.office.specs.declared.sheets.WardText.TheVariants.{Ballots, Declaration, Page, Results, Sheet, Table}
-use Rattle.desk.specs.Publications.{sealed_entry, texts_of}
+use Rattle.published_office.specs.OfficeFolder.{texts_of}
+use Rattle.desk.specs.Publications.{sealed_entry}
 use Rattle.desk.proofs.PublishLemmas.{declared_counted, reads_as, reads_both, reads_cut, reads_failed, reads_none, reads_stopped, same_texts, text_if_there, text_there}
 use Rattle.desk.proofs.publishing.sealed_ward.Goals as goal
 

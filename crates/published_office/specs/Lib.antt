@@ -1,0 +1,2 @@
+-- What is published of an office.
+pub mod OfficeFolder
