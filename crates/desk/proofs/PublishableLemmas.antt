@@ -21,10 +21,11 @@ use Rattle.tables.proofs.ListLemmas.{mapped_twice}
 use Rattle.sheet.specs.Entries.{SheetEntry}
 use Rattle.sheet.specs.Lines.{line, named}
 use Rattle.sheet.specs.Index.{index_heads, index_opening, index_row}
+use Rattle.sheet.specs.declared.surpluses.PassedOn.{PassedOn}
 use Rattle.sheet.specs.Page.{elected_items, elected_text, empty_seats, foot, grounds, left_in, page, page_head, title_line}
 use Rattle.store.specs.Overviews.{ward_views}
 use Rattle.office.specs.Index.{index_of, listed_shown}
-use Rattle.office.specs.Sheets.{election_shown, lots_shown, result_page_of, stages_shown}
+use Rattle.office.specs.Sheets.{election_shown, lots_shown, result_page_of, stages_shown, surpluses_shown}
 use Rattle.publication.specs.Election.{WardEntry as PublishedWard, are_in_order, ascend_from}
 use Rattle.publication.specs.Pages.{is_page, page_end}
 use Rattle.published_office.specs.OfficeFolder.{election_published, sealed_wards, texts_of, wards_published}
@@ -54,13 +55,14 @@ unfolding before_end
 foot_ends ward true stages = sym (append_assoc _ _ page_end)
 foot_ends ward false stages = refl
 
-page_ends : (ward : SheetEntry) (title : Text) (is_declared : Bool) (stages : List Stage) (lots : List (ℕ × ℕ)) → is_page (page ward title is_declared stages lots) ≡ true
-page_ends ward title is_declared stages lots =
-    ends_so (page_head ward title is_declared ++ elected_text ward is_declared stages ++ grounds ward ward.poll stages lots) (before_end ward is_declared stages)
+page_ends : (ward : SheetEntry) (title : Text) (is_declared : Bool) (stages : List Stage) (lots : List (ℕ × ℕ)) (surpluses : List PassedOn)
+    → is_page (page ward title is_declared stages lots surpluses) ≡ true
+page_ends ward title is_declared stages lots surpluses =
+    ends_so (page_head ward title is_declared ++ elected_text ward is_declared stages ++ grounds ward ward.poll stages lots surpluses) (before_end ward is_declared stages)
     (foot ward is_declared stages) (foot_ends ward is_declared stages)
 
 result_page_ends : (title : Text) (e : ElectionEntry) → is_page (result_page_of title e) ≡ true
-result_page_ends title e = page_ends (election_shown e) title (is_declared e.ward.phase) (stages_shown e) (lots_shown e)
+result_page_ends title e = page_ends (election_shown e) title (is_declared e.ward.phase) (stages_shown e) (lots_shown e) (surpluses_shown e)
 
 index_ends : (title : Text) (s : OfficeState) → is_page (index_of title s) ≡ true
 index_ends title s =
