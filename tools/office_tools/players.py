@@ -112,7 +112,7 @@ class Player(Browser):
 
 class Officer(Player):
     SIZES, EXPECTED = ((1280, 800), (800, 600), (400, 800)), "ERR_|status of (401|503)|Clear-Site-Data"
-    # What the page may ask for: docs/CONSOLE-API.md.
+    # What the page may ask for: docs/formats/console-api.md.
     ASKED = re.compile(r"(GET /office/(|leave|wards(/\d+(/batches|/doubtful)?)?|batches/\d+/(differences|papers)|receipts(\?actor=\d+)?)"
                        r"|POST /office/orders) HTTP/1.1")
 

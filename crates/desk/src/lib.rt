@@ -5,7 +5,7 @@
 //! open. A [`Folder`](folders) opens the files that the order or its script names. [`lines`](lines) prints what is wrong with words
 //! that aren't an order, and other failures. [`copy_office`](copying) performs an order to copy the office, and
 //! [`journal_office`](journal_check) an order to print its journal, each on two connections; an order to serve is performed by
-//! the `server` crate. In an office that is already open, such as one that is being served, [`follow`](order_running) does a job,
+//! the program. In an office that is already open, such as one that is being served, [`follow`](order_running) does a job,
 //! and `copy_open` and `journal_open` copy the office and print its journal. There [`mend_open`](mended_office) makes another
 //! office from that journal, with some orders left out and others replaced, and [`second_open`](second_record) compares the office
 //! with a second record of it. [`publish_open`](publishing) publishes its results in a folder. [`files_named_in`](script_files) returns the paths of the files that a script names, for a client

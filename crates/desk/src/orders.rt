@@ -72,7 +72,7 @@ pub enum Question {
     Form { form: Form, ward: u32 },
 }
 
-/// A task in an existing office. Numbers are kept as given, whether or not they are in range.
+/// What an order sends to an open office, or asks it for. Numbers are kept as given, whether or not they are in range.
 #[derive(Debug, Drop)]
 pub enum Errand<'a> {
     /// Send this request, which is either the office's or a clerk's keying.

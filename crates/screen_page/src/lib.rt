@@ -4,7 +4,7 @@
 //! shows. [`policy_text`] returns the policy that limits what the page can do in a browser. A server sends both in one response.
 //!
 //! `specs/Page.antt` defines both from the same script and the same style, so the policy names the script and the style that are
-//! served. What the script does isn't specified: `docs/formats/screen-api.md` describes its requests, and `tools/try hall-screen`
+//! served. What the script does isn't specified: `docs/formats/screen-api.md` describes its requests, and `tools/try console-hostile`
 //! runs it.
 #![tactic(auto)]
 
