@@ -30,7 +30,10 @@
 #![tactic(auto)]
 
 // From words to an order.
+mod matched_words;
+mod order_commands;
 mod order_entry;
+mod order_meanings;
 mod order_table;
 pub mod orders;
 mod verdicts;

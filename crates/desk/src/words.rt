@@ -8,8 +8,10 @@ ghost use Rattle.desk.specs.Versions.{version_text};
 ghost use Rattle.desk.specs.Words.{IsNoneMeant, IsOwnText, IsToldOf, TellsOwnText, TellsRefusal, meaning, status_of_kind, wrong_with};
 ghost use Rattle.desk.specs.Words.{office_words, order_words, rule_of_kind, start_words, with_orders};
 
+use crate::matched_words::NoOrder;
 use crate::order_entry::{Entry, Heading, Kind, MAX_CONNECTIONS, MAX_PORT, Word};
-use crate::order_table::{NoOrder, entries_from_seal, entries_to_seal, order_in};
+use crate::order_meanings::order_in;
+use crate::order_table::{entries_from_seal, entries_to_seal};
 use crate::orders::Order;
 use crate::version::{VERSION, version_text};
 use clap::error::ErrorKind;

@@ -1,7 +1,7 @@
 -- Proof that `number_of` meets its contract.
 use Rattle.std.proofs.Common.{refl, ap, Some}
 use Rattle.desk.proofs.NumbersRead.{fitting_is_number, unfitting_is_none}
-use Rattle.desk.proofs.order_table.number_of.Goals as goal
+use Rattle.desk.proofs.order_meanings.number_of.Goals as goal
 
 pub returns-in-Ok : goal.returns-in-Ok
 returns-in-Ok c = rw (fitting_is_number c.args.text.now c.in-Ok.ensures.value.0.0) (ap Some c.in-Ok.ensures.value.0.1)

@@ -1,7 +1,7 @@
 -- Proof that `order_in` meets its contract: the name and the rows are those of the matches' subcommand.
 use Rattle.desk.proofs.OrdersNamed.{rows_given}
 use Rattle.clap.specs.Words.{found_of, rows_of}
-use Rattle.desk.proofs.order_table.order_in.Goals as goal
+use Rattle.desk.proofs.order_meanings.order_in.Goals as goal
 
 pub returns-in-Some-clause-ok : goal.returns-in-Some-clause-ok
 returns-in-Some-clause-ok c =

@@ -2,7 +2,7 @@
 use Rattle.std.proofs.Common.{◌≡◌, false, refl, rules}
 use Rattle.desk.specs.Words.{is_command_name, is_question_name}
 use Rattle.desk.proofs.OrderNames.{no_order}
-use Rattle.desk.proofs.order_table.order_named.Goals as goal
+use Rattle.desk.proofs.order_meanings.order_named.Goals as goal
 
 pub returns-in_err-command_named-in-None-clause-unknown : goal.returns-in_err-command_named-in-None-clause-unknown
 returns-in_err-command_named-in-None-clause-unknown c = λ unknown.

@@ -5,7 +5,7 @@ use Rattle.clap.specs.Words.{found_of, one_text}
 use Rattle.std.specs.Prelude.{option_and_then}
 use Rattle.desk.specs.Numbers.{number_in}
 use Rattle.desk.proofs.NumbersRead.{read_number}
-use Rattle.desk.proofs.order_table.number_found_in.Goals as goal
+use Rattle.desk.proofs.matched_words.number_found_in.Goals as goal
 
 pub returns : goal.returns
 returns c = by (one_text (found_of c.args.matches.now) c.args.word.name.now) refl ∙ ap (option_and_then number_in) (one_text-rows (found_of c.args.matches.now) c.args.word.name.now)
