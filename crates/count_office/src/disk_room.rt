@@ -113,7 +113,7 @@ fn fill<W: Write>(rt: &HostRuntime, file: &mut W) -> Room {
     Room::AtLeast(MOST_BLOCKS * BLOCK_KILOBYTES)
 }
 
-/// Makes a file for this user alone, where nothing has that name, and removes the name. Only the opened file is left.
+/// Makes a file for this user alone, if nothing has its name, and removes that name. Only the opened file is left.
 fn make_nameless(rt: &HostRuntime, path: &str) -> io::Result<File> {
     let file = OpenOptions::new()
         .write(true)

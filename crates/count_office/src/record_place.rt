@@ -50,7 +50,7 @@ fn time_words(alloc: Global, found: &Metadata) -> Result<String, AllocError> {
 }
 
 /// Returns the lines on the second record of the office in a database: where it is, when its last line was written, and how much room is
-/// left there; and if so, that it is on the office's own disk, or that little room is left.
+/// left there. A line each warns if it is on the office's own disk, and if little room is left.
 ///
 /// The first line is `second record: /media/stick/town.script, last line 21:04:07 UTC, room for at least 16 MB`.
 pub fn record_lines(rt: &HostRuntime, database: &str, record: &str) -> Result<String, AllocError> {
