@@ -103,7 +103,7 @@ const goingOver = {open: async (page, ...orders) => {
 const NOT_MENDED = 'not mended: 0 orders can be replaced, not just one: ward 7\n';
 const MENDED = ['mend', 'town-5.db', '--with=judge --id ID 13 6 accept:,1', '--without=4:v2'];
 
-const RECORD = 'second record: /media/stick/town.script, last line 21:04:07 UTC\n';
+const RECORD = 'second record: /media/stick/town.script, last line 21:04:07 UTC, room for at least 16 MB\n';
 
 const PLAYS = {
   'a ward is sealed once read back': play(Console, [{batches: [batch(12), batch(15)], orders: [['ward 7 sealed\n']]}], async (window) => {
@@ -115,11 +115,11 @@ const PLAYS = {
     assert.deepEqual(window.office.orders, []);
   }),
   'the head says where the second record is, and warns': play(Console, [{record: RECORD}], async (window) => {
-    window.sees({recorded: 'Second record: /media/stick/town.script, last line 21:04:07 UTC.', 'recorded className': ''});
+    window.sees({recorded: 'Second record: /media/stick/town.script, last line 21:04:07 UTC, room for at least 16 MB.', 'recorded className': ''});
     assert.equal(window.looks, 1);
     window.office.record = `${RECORD}warning: it is on the same disk as the office\nit failed\n`;
     await window.pass(30, {'recorded className': ''});
-    await window.pass(40, {recorded: /21:04:07 UTC\. Warning: it is on the same disk as the office\. It failed\.$/, 'recorded className': 'down'});
+    await window.pass(40, {recorded: /at least 16 MB\. Warning: it is on the same disk as the office\. It failed\.$/, 'recorded className': 'down'});
     await window.click('tab journal', {copies: /No copy made from this browser yet.*Second record: \/media.*It failed\./});
     window.office.record = 'no second record\n';
     await window.pass(60, {recorded: 'No second record.', 'recorded className': ''});

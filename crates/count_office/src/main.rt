@@ -66,8 +66,10 @@ mod new_folder;
 mod publishing;
 mod served_file;
 // an office and a second record of it
+mod disk_room;
 mod record_note;
 mod record_place;
+mod record_remark;
 mod second_file;
 mod second_order;
 mod second_words;

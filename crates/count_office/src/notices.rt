@@ -3,7 +3,7 @@
 
 use crate::moved_note::moved_to;
 use crate::record_note::{RECORDING, recorded_in};
-use crate::record_place::{disk_warning, record_words};
+use crate::record_place::{disk_warning, room_warning};
 use crate::second_file::SecondFault;
 use desk::RecordFault;
 use std::fs;
@@ -70,12 +70,20 @@ pub fn warn_if_on_one_disk(rt: &HostRuntime, database: &str, record: &str) {
     }
 }
 
+/// Prints a line that warns if little room is left on the disk of a second record.
+fn warn_if_little_room(rt: &HostRuntime, record: &str) {
+    if let Ok(warning) = room_warning(rt, record) {
+        let _ = rt.stderr().write_all(warning.as_bytes());
+    }
+}
+
 /// Prints in which file the requests are recorded that the office in a database accepts while it is served, and whether that is on the
-/// office's own disk.
+/// office's own disk, or little room is left there.
 pub fn tell_recording(rt: &HostRuntime, database: &str, record: &str) {
     let mut stderr = rt.stderr();
     let _ = writeln!(stderr, "recording in {record} now");
     warn_if_on_one_disk(rt, database, record);
+    warn_if_little_room(rt, record);
 }
 
 /// Prints that there is no note of the second record next to a database.
@@ -99,25 +107,18 @@ pub fn tell_if_unrecorded(rt: &HostRuntime, database: &str) {
     }
 }
 
-/// Returns where the second record is with which the office in a database is served, and when its last line was written; `None` if there
-/// is none, or that can't be found out.
-pub fn record_kept(rt: &HostRuntime, database: &str) -> Option<String> {
-    let record = recorded_in(rt, database).ok()??;
-    record_words(rt, record.as_str()).ok()
-}
-
-/// Prints where the second record of an office is, after the office was copied.
-pub fn tell_record(rt: &HostRuntime, words: &str) {
+/// Prints where the second record of an office is, and the lines that warn, after the office was copied.
+pub fn tell_record(rt: &HostRuntime, place: &str, warnings: &str) {
     let mut stderr = rt.stderr();
-    let _ = writeln!(stderr, "second record: {words}");
+    let _ = write!(stderr, "second record: {place}\n{warnings}");
 }
 
 /// Prints where the second record of an office is whose place another one has taken.
-pub fn tell_record_until_switch(rt: &HostRuntime, words: &str) {
+pub fn tell_record_until_switch(rt: &HostRuntime, place: &str) {
     let mut stderr = rt.stderr();
     let _ = writeln!(
         stderr,
-        "second record until now: {words}; the new office begins its own next to it"
+        "second record until now: {place}; the new office begins its own next to it"
     );
 }
 

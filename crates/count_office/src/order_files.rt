@@ -119,6 +119,14 @@ fn words_of(alloc: Global, words: &[&str]) -> Result<Vec<OrderPart>, AllocError>
     Ok(parts)
 }
 
+/// Returns an order that reads no file, with the given words.
+pub fn words_alone(alloc: Global, words: &[&str]) -> Result<OrderFiles, AllocError> {
+    Ok(OrderFiles {
+        words: words_of(alloc, words)?,
+        files: Vec::new(alloc),
+    })
+}
+
 fn order_files_of(
     rt: &HostRuntime,
     words: &[&str],

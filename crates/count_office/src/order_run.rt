@@ -7,13 +7,14 @@ use crate::file_lock::FileLock;
 use crate::localhost::{Localhost, Succession};
 use crate::moved_note::moved_to;
 use crate::notices::{
-    LockHolder, record_kept, tell_if_moved, tell_if_unrecorded, tell_record,
-    tell_record_until_switch, warn_foreign_log, warn_if_open_to_others, warn_waited, warn_waiting,
+    LockHolder, tell_if_moved, tell_if_unrecorded, warn_foreign_log, warn_if_open_to_others,
+    warn_waited, warn_waiting,
 };
 use crate::order_client::{OrderReply, Sent, print_reply, send_order};
 use crate::order_files::{OrderFiles, read_order_and_files};
 use crate::path_state::{PathKind, PathState};
 use crate::record_note::forget_recording;
+use crate::record_remark::{record_kept, tell_kept};
 use crate::screen::Screen;
 use crate::{
     LockedDatabase, close, dispatch_order, is_busy, order_socket, takes_second, wants_progress,
@@ -165,22 +166,6 @@ fn read_order_files(
     Ok(())
 }
 
-/// An order that a served office was given, after which the program says where the office's second record is.
-#[derive(Clone, Copy)]
-enum RecordRemark {
-    AfterCopy,
-    AfterSwitch,
-}
-
-/// Returns how the program says where the second record is after an order; `None` if it doesn't.
-fn remark_of(order: &Order<'_>) -> Option<RecordRemark> {
-    match order {
-        Order::Copy { .. } => Some(RecordRemark::AfterCopy),
-        Order::Mend(asked) if asked.takes_over => Some(RecordRemark::AfterSwitch),
-        _ => None,
-    }
-}
-
 /// Sends the parts of an order to the program that serves the database, and prints the reply. After a copy or a switch, prints where the
 /// second record is, if the office is served with one. Returns what became of sending; the status if there was a reply.
 fn send_and_print<O: Sink, E: Sink>(
@@ -195,28 +180,16 @@ fn send_and_print<O: Sink, E: Sink>(
     ensures { OnErr result ((out.new ≡ out.old) × (err.new ≡ err.old)) }
 {
     let rt = request.rt;
-    // A switch removes the note that this is read from.
-    let kept = remark_of(request.order).and_then(|_| record_kept(rt, database));
+    let kept = record_kept(rt, database, request.order);
     let status = match send_order(rt, database, order_files) {
         Sent::Replying(reply) => print_watched(request, reply, out, err),
         Sent::Unread => return Err(LockHolder::Order),
         Sent::Failed(fault) => return Ok(tell_failure(Failure::Office(fault), err)),
     };
-    if let Some(words) = kept {
-        tell_kept(request, status, words.as_str());
+    if let Some(kept) = kept {
+        tell_kept(rt, request.order, status, kept.as_str());
     }
     Ok(status)
-}
-
-/// Prints where the second record is, if a copy or a switch has ended with status 0.
-fn tell_kept(request: OrderRun<'_>, status: u8, words: &str) {
-    match remark_of(request.order) {
-        Some(RecordRemark::AfterCopy) if status == 0 => tell_record(request.rt, words),
-        Some(RecordRemark::AfterSwitch) if status == 0 => {
-            tell_record_until_switch(request.rt, words);
-        }
-        _ => {}
-    }
 }
 
 /// Sends an order to the program that has locked the order's database, and returns the status. The order's files are read

@@ -118,8 +118,8 @@ RECORD, SAME = "town.script", "town.script and this office hold the same"
 MORE_HERE, MORE_THERE = "this office has one request more than town.script", "town.script has one request more than this office"
 UNRECORDED, NOT_RECORDED = "fault 112: second record\n", b'{"fault":112}'
 WARNING = f"warning: {RECORD} is on the same disk as the office, so losing that disk loses both; use a file on another disk\n"
-RECORD_FAILS = (f"recording in {RECORD} now\n"
-                f"{RECORD}: the file of the second record failed; nothing more is accepted until you start again with a new file\n")
+RECORDING = f"recording in {RECORD} now\n"
+RECORD_FAILS = f"{RECORD}: the file of the second record failed; nothing more is accepted until you start again with a new file\n"
 WHOLE = re.compile(rb"HTTP/1\.1 200 OK\r\n.*?Content-Length: (\d+)\r\n.*?\r\n\r\n(.*)", re.DOTALL)
 
 class Crowd:
@@ -152,10 +152,10 @@ class Crowd:
         wrong_if(other, f"an order for a ward prints {other}")
         return {ward: one for ward, one in printed.items() if one.out and ward not in self.alone}
 
-    def served(self, here, wait=None, fails=False, begun_at=None, **how):
+    def served(self, here, wait=None, fails=False, begun_at=None, warned="", **how):
         """Returns (seconds of clerks and of orders, whose answers) of a `serve` that is killed after some seconds, or at the end.
 
-        If its record fails, nothing is answered from then on but what is read.
+        If its record fails, nothing is answered from then on but what is read. WARNED is what `serve` says of the record's disk.
         """
         self.is_over, self.fails = threading.Event(), fails
         with (begun_at or here).serve(*self.words, **how).wait() as serving, ThreadPoolExecutor(len(CLERKS) + 2) as pool:
@@ -179,7 +179,7 @@ class Crowd:
             if fails:
                 later = key(1).endswith(NOT_RECORDED), status(serving.ask(request("/clerks/1/work")))
                 later = *later, serving.kill().err.replace(WARNING, "")
-                expect("what a clerk gets and reads later, and `serve` prints", later, (True, 200, RECORD_FAILS))
+                expect("what a clerk gets and reads later, and `serve` prints", later, (True, 200, RECORDING + warned + RECORD_FAILS))
         return (keying, ordering), keyed | ordered
 
     def kept(self, here):
@@ -243,7 +243,7 @@ class Crowd:
             _, answered = self.served(here, fails=True, under=self.traced(here, change))
         else:
             with full_disk(here.folder / "stick", size) as stick:
-                _, answered = self.served(here, fails=True, begun_at=stick, town=f"../{TOWN}")
+                _, answered = self.served(here, fails=True, begun_at=stick, warned=little_room(0), town=f"../{TOWN}")
                 shutil.copy(stick.folder / RECORD, here.folder)
         found = self.recorded(here, answered, self.kept(here))
         (here.folder / RECORD).unlink()
@@ -283,6 +283,26 @@ def full_disk(path, size):
     finally:
         ran("umount", str(path))
 
+def little_room(left):
+    """Returns the line that warns that so many KB are left on the record's disk; nothing if that is 1 MB."""
+    warning = f"warning: the disk of {RECORD} has room for {left} KB, and once it is full, nothing more is accepted"
+    return f"{warning}; make room there, or use a file on another disk\n" if left < 1024 else ""
+
+def tell_room(folder, size):
+    """Has a record on a disk of some size, and sees that `copy` and `serve` say how much room it has left, and leave nothing else there."""
+    office = Office(folder).begin()
+    with full_disk(folder / "stick", size) as stick, stick.serve("--second", RECORD, town=f"../{TOWN}").wait() as serving:
+        while not (folder / f"{TOWN}-recording").exists():
+            time.sleep(0.01)
+        found = os.statvfs(stick.folder)
+        left = found.f_bavail * found.f_frsize // 1024
+        said = re.sub(r"[\d:]{8} UTC", "TIME", office.run("copy", "copied.db").err)
+        room = f"{left} KB" if left < 16 * 1024 else "at least 16 MB"
+        place = f"second record: {stick.folder.resolve() / RECORD}, last line TIME, room for {room}\n"
+        expect(f"what `copy` says of a disk of {size}", said, place + little_room(left))
+        expect(f"what `serve` says of a disk of {size}", serving.kill().err, RECORDING + little_room(left))
+        expect(f"what is on a disk of {size}", [path.name for path in stick.folder.iterdir()], [RECORD])
+
 def rows_of(office):
     return [(table, row) for table, rows in office.rows().items() for row in rows]
 
@@ -312,7 +332,8 @@ def try_second_record(room, runs=100, seed=7, *, step=1):
     Then each call on FILE fails once, by `strace`; STEP tries one in STEP. If FILE can't be begun, nothing is served, and it is removed. If
     it fails later, the same holds as after a kill, and more: nothing is acknowledged from then on, although the calls don't fail any more.
     Each clerk and order gets fault 112, `serve` prints why, and pages can be read. With a new FILE everyone gets the answer. Given by root,
-    it also has FILE on a disk of 4 KB that becomes full, which cuts a line. Last fails each call on FILE of an order that is performed alone:
+    it also has FILE on a disk of 4 KB that becomes full, which cuts a line, and on disks of which it knows how much room is left: `serve`
+    and `copy` have to say so. Last fails each call on FILE of an order that is performed alone:
     it prints fault 112 or file fault 8, and is done or not; if it is done, FILE may lack it. A `statx` that fails may harm nothing.
     """
     needs("strace")
@@ -341,6 +362,8 @@ def try_second_record(room, runs=100, seed=7, *, step=1):
         # The journal is so long that the disk is full after some of the requests.
         crowd = Crowd(room / "full", *crowd.words, more=[f"ward {n} 1 {'x' * 80} --id p{n}" for n in range(80, 88)])
         row("a disk that becomes full", [crowd.unrecorded(size="4k") for _ in range(0, runs, 10)])
+        for size in ("600k", "3m", "40m"):
+            tell_room(room / size, size)
     table = Table("Calls on the file that fail", "number", "the order is done, without a reply")
     table.row("of `serve`, before it serves anybody", len(begins), "")
     table.row("of an order that is performed alone", *failed_alone(room / "alone"))
