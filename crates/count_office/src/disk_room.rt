@@ -8,7 +8,7 @@
 //!   leaves an empty file. It isn't removed, because nobody knows whose it is; while it is there, the room isn't known.
 //! - Nothing is flushed, and the file is cut before it is closed, since some systems write what a file still has when it is closed. So
 //!   hardly any of it reaches the medium: what fails is to reserve the room. A disk that is mounted with `sync` does write it all. It may be
-//!   slow, so no more is tried out once a quarter of a second has passed.
+//!   slow, so no more is tried out once a quarter of a second has passed or, while there is less than 1 MB, a second.
 //! - If fewer than 16 MB are left, the disk is full for a moment, and another program may find it so. Therefore only the program that
 //!   appends to the record tries out its room, and never while it appends.
 //!
@@ -38,8 +38,11 @@ const MOST_BLOCKS: u32 = 4096;
 /// The number of KB in a MB, and below which little room is left.
 const MEGABYTE: u32 = 1024;
 
-/// The number of milliseconds after which no more is written.
+/// The number of milliseconds after which no more is written, once there is room enough.
 const PATIENCE: u128 = 250;
+
+/// The number of milliseconds after which no more is written at all.
+const MOST_PATIENCE: u128 = 1000;
 
 /// How much room is left on a disk, in KB of 1024 bytes.
 #[derive(Clone, Copy)]
@@ -91,9 +94,14 @@ fn is_full(error: &io::Error) -> bool {
     )
 }
 
-/// Returns whether a quarter of a second has passed since a moment; false if the clock fails.
-fn is_slow(rt: &HostRuntime, begun: Instant) -> bool {
-    matches!(begun.elapsed(rt), Ok(passed) if passed.as_millis() >= PATIENCE)
+/// Returns whether trying out has taken too long, given when it began and the number of KB that were written; false if the clock fails.
+fn is_slow(rt: &HostRuntime, begun: Instant, kilobytes: u32) -> bool {
+    let patience = if kilobytes < MEGABYTE {
+        MOST_PATIENCE
+    } else {
+        PATIENCE
+    };
+    matches!(begun.elapsed(rt), Ok(passed) if passed.as_millis() >= patience)
 }
 
 /// Writes zeros up to 16 MB, or until the disk is full, or was slow. Returns how much room there was.
@@ -103,8 +111,9 @@ fn fill<W: Write>(rt: &HostRuntime, file: &mut W) -> Room {
     };
     let zeros = [0; BLOCK];
     for blocks in 0..MOST_BLOCKS {
+        let written = (blocks + 1) * BLOCK_KILOBYTES;
         match file.write_all(&zeros) {
-            Ok(()) if is_slow(rt, begun) => return Room::AtLeast((blocks + 1) * BLOCK_KILOBYTES),
+            Ok(()) if is_slow(rt, begun, written) => return Room::AtLeast(written),
             Ok(()) => {}
             Err(error) if is_full(&error) => return Room::Exactly(blocks * BLOCK_KILOBYTES),
             Err(_) => return Room::Unknown,
@@ -129,8 +138,11 @@ pub fn room_next_to(rt: &HostRuntime, record: &str) -> Room {
     let Ok(path) = format!(in rt.alloc(); "{record}{ENDING}") else {
         return Room::Unknown;
     };
-    let Ok(mut file) = make_nameless(rt, path.as_str()) else {
-        return Room::Unknown;
+    let mut file = match make_nameless(rt, path.as_str()) {
+        Ok(file) => file,
+        // A full disk may have no room for a name either.
+        Err(error) if is_full(&error) => return Room::Exactly(0),
+        Err(_) => return Room::Unknown,
     };
     let room = fill(rt, &mut file);
     let _ = file.set_len(0);
