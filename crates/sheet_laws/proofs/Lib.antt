@@ -1,0 +1,3 @@
+-- Lemmas for the laws of the printed texts.
+pub mod GroupLemmas
+pub mod FigureLemmas

@@ -1,0 +1,15 @@
+//! The surpluses on a page, compared with the count.
+
+ghost use Rattle.sheet_laws.specs.SurplusLaw.{AccountForFigures, HaveAllPapers, HaveTransferValues};
+
+/// States the law of the surpluses on a ward's page. The papers that it names at a surplus are all that the candidate holds after
+/// the stages before it, in all and at each value, and each passes on at its value times the share of the surplus, rounded down. No
+/// value is named twice, and the highest comes first.
+///
+/// At the stage of the surplus, the named values when received add up to the candidate's votes, of which the quota stays. The values
+/// passed on add up to what all others gain, with the non-transferable votes, and the rest of the surplus is lost by fractions.
+pub fn surpluses_are_of_the_count()
+    ensures papers { HaveAllPapers }
+    ensures values { HaveTransferValues }
+    ensures figures { AccountForFigures }
+{}
