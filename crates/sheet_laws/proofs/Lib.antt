@@ -1,3 +1,5 @@
 -- Lemmas for the laws of the printed texts.
 pub mod GroupLemmas
 pub mod FigureLemmas
+pub mod StageLemmas
+mod WorkedSurplusLaw

@@ -1,20 +1,33 @@
 -- The papers that a page names as passing on with a surplus, compared with the papers and figures of the count.
-use Rattle.std.specs.Prelude.{◌≡◌, ◌≢◌, ℕ, ◌+◌, ◌-◌, ◌*◌, ◌<◌, ◌≤◌, ◌==◌, ◌&&◌, if◌then◌else◌, not, List, ◌∷◌, length, filter, sum_by, AllPairs, Option}
+use Rattle.std.specs.Prelude.{◌≡◌, ◌≢◌, ℕ, ◌+◌, ◌-◌, ◌*◌, ◌<◌, ◌≤◌, ◌==◌, ◌&&◌, if◌then◌else◌, not, List, [], ◌∷◌, ◌++◌, length, filter, sum_by, AllPairs, Option}
 use Rattle.std.specs.List.{AllByRecursion}
 use Rattle.votes.specs.Units.{cut}
 use Rattle.count.specs.Bundles.{AreBundles, Bundle, papers_of}
-use Rattle.count.specs.Law.Contest.{Contest, History, In, IsContest, newest_votes, votes_at}
+use Rattle.count.specs.Law.Contest.{Contest, History, In, IsContest, contest_for, newest_votes, votes_at}
 use Rattle.count.specs.Law.Places.{place, surplus_of}
-use Rattle.count.specs.Law.Right.{IsRightBy}
+use Rattle.count.specs.Law.Right.{IsRight, IsRightBy}
 use Rattle.count.specs.declared.stages.Action.TheVariants.{Surplus}
 use Rattle.count.specs.declared.stages.Stage.{Stage}
-use Rattle.sheet.specs.Surpluses.{all_held, papers_in}
+use Rattle.sheet.specs.Surpluses.{all_held, held_by, papers_in, surplus_by, surpluses_of}
 use Rattle.sheet.specs.declared.surpluses.PassedOn.{PassedOn}
 
 -- the bundles of the papers of a contest
 pub record AreBundlesOf (contest : Contest) (bundles : List Bundle) : Type 0 where
   pub bundles_are : AreBundles bundles
   pub papers_are : contest.papers ≡ papers_of bundles
+
+-- ---- at which stages
+
+-- the papers that pass on with the surpluses that the given stages transfer, stage by stage
+abbrev pub passed_at : Contest → List Bundle → History → List PassedOn
+passed_at contest bundles [] = []
+passed_at contest bundles (s ∷ before) = passed_at contest bundles before ++ held_by contest before bundles (surplus_by s.action)
+
+-- the groups that a page names for correct stages are those of each stage that transfers a surplus, and no others
+abbrev pub AreOfEachSurplus : Type 0
+AreOfEachSurplus =
+    (candidates : List ℕ) (seats : ℕ) (bundles : List Bundle) (lots : List (ℕ × ℕ)) (stages : History) → let contest = contest_for candidates seats (papers_of bundles) in
+    IsRight contest lots stages → surpluses_of candidates seats bundles lots (length stages) ≡ passed_at contest bundles stages
 
 -- ---- how many papers
 

@@ -1,7 +1,11 @@
 -- Proof that `surpluses_are_of_the_count` meets its contract.
 use Rattle.sheet_laws.proofs.FigureLemmas.{figures_accounted}
 use Rattle.sheet_laws.proofs.GroupLemmas.{all_papers, transfer_values}
+use Rattle.sheet_laws.proofs.StageLemmas.{of_each_surplus}
 use Rattle.sheet_laws.proofs.laws.surpluses_are_of_the_count.Goals as goal
+
+pub returns-clause-stages : goal.returns-clause-stages
+returns-clause-stages c = of_each_surplus
 
 pub returns-clause-papers : goal.returns-clause-papers
 returns-clause-papers c = all_papers
