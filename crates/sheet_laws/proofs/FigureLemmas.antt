@@ -213,7 +213,7 @@ module _ (contest : Contest) (handed : History → Stage → Option ℕ) (s old 
           quota_stays = quota_stays;
           above_quota = due.1;
           none_loses = λ d here differ. none_lose d here (λ e. differ (sym e));
-          none_untransferable = more_untransferable;
+          non_transferable_kept = more_untransferable;
           gains_are = all_gain ∙ sym passed;
           rest_is_lost = lost_more ∙ ap (λ n. old.lost + (surplus_of contest stages c - n)) (sym passed);
           within_surplus = omega (arith, passed, passed_within);

@@ -155,7 +155,7 @@ abbrev pub Descend : List PassedOn → Type 0
 Descend [] = ⊤
 Descend (g ∷ gs) = AllByRecursion (λ h. h.received < g.received) gs × Descend gs
 
-each_below : (v w : ℕ) (gs : List PassedOn) → v ≤ w → AllByRecursion (λ h. h.received < v) gs → AllByRecursion (λ h. h.received < w) gs
+pub each_below : (v w : ℕ) (gs : List PassedOn) → v ≤ w → AllByRecursion (λ h. h.received < v) gs → AllByRecursion (λ h. h.received < w) gs
 each_below v w [] less each = tt
 each_below v w (g ∷ gs) less each = (omega (arith, each.0, less), each_below v w gs less each.1)
 

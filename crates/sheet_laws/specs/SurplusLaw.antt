@@ -71,6 +71,13 @@ HaveTransferValues =
     (contest : Contest) (before : History) (bundles : List Bundle) (c : ℕ) → AreBundlesOf contest bundles →
     AllByRecursion (IsOfSurplus contest before c) (all_held contest before bundles c) × AllPairs IsHigher (all_held contest before bundles c)
 
+-- the count determines the groups: no other list has these values, in this order, with as many papers at each
+abbrev pub AreTheOnlyGroups : Type 0
+AreTheOnlyGroups =
+    (contest : Contest) (before : History) (bundles : List Bundle) (c : ℕ) (groups : List PassedOn) → AreBundlesOf contest bundles →
+    AllByRecursion (IsOfSurplus contest before c) groups → AllPairs IsHigher groups →
+    ((value : ℕ) → papers_received_at value groups ≡ length (papers_held_at contest before c value)) → groups ≡ all_held contest before bundles c
+
 -- ---- to what they add up
 
 -- the total value of the groups when received
@@ -96,12 +103,12 @@ pub record AreOfFigures (contest : Contest) (s old : Stage) (c : ℕ) (groups : 
   pub quota_stays : votes_at s c ≡ contest.quota
   pub above_quota : contest.quota < votes_at old c
   pub none_loses : (d : ℕ) → In d contest.candidates → d ≢ c → votes_at old d ≤ votes_at s d
-  pub none_untransferable : old.non_transferable ≤ s.non_transferable
+  pub non_transferable_kept : old.non_transferable ≤ s.non_transferable
   pub gains_are : sum_by (gained s old) (others contest c) + (s.non_transferable - old.non_transferable) ≡ value_transferred groups
   pub rest_is_lost : s.lost ≡ old.lost + (votes_at old c - contest.quota - value_transferred groups)
   pub within_surplus : value_transferred groups ≤ votes_at old c - contest.quota
 
--- at each stage of a correct count that transfers a surplus, the groups account for the figures
+-- at each stage of a correct count that transfers a surplus, the groups account for the figures; the first stage transfers none
 abbrev pub AccountForFigures : Type 0
 AccountForFigures =
     (contest : Contest) (handed : History → Stage → Option ℕ) (s old : Stage) (older : History) (bundles : List Bundle) (c : ℕ) → IsContest contest →
