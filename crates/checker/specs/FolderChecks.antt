@@ -1,7 +1,7 @@
 -- The outcome of checking a folder.
-use Rattle.std.specs.Prelude.{◌≡◌, ℕ, true, List, length, ⊤}
+use Rattle.std.specs.Prelude.{◌≡◌, ¬◌, ℕ, true, List, length, ⊤}
 use Rattle.publication.specs.Files.{FileEntry}
-use Rattle.checker.specs.Folders.{IsConfirmedFolder, IsPublishedFolder}
+use Rattle.checker.specs.Folders.{HasExactly, IsConfirmedFolder, IsOfficeFolder, IsPublishedFolder}
 use Rattle.checker.specs.FolderViews.{are_same}
 use Rattle.checker.specs.InputFiles.{InputFiles}
 use Rattle.checker.specs.Tokens.{Text}
@@ -9,10 +9,15 @@ use Rattle.checker.specs.declared.folder_checking.FolderChecked.{FolderChecked}
 use Rattle.checker.specs.declared.folder_checking.FolderChecked.TheVariants.{Confirmed, Differs}
 use Rattle.checker.specs.declared.folder_files.FolderFile.{FolderFile}
 
--- the outcome for the folder at the given path: it is confirmed only if it has exactly the files of a published election
+-- no office published the folder at the given path with the ballots: it hasn't exactly the files of an election that may occur in an office
+abbrev pub IsNoOfficeFolder : InputFiles → Text → Type 0
+IsNoOfficeFolder held path = (files : List FileEntry) → HasExactly held path files → ¬ (IsOfficeFolder files)
+
+-- The outcome for the folder at the given path. It is confirmed only if it has exactly the files of a published election, and each folder that an office published with the
+-- ballots is confirmed.
 abbrev pub IsFolderChecked : InputFiles → Text → FolderChecked → Type 0
 IsFolderChecked held path (Confirmed files) = IsConfirmedFolder held path files
-IsFolderChecked held path (Differs lines) = ⊤
+IsFolderChecked held path (Differs lines) = IsNoOfficeFolder held path
 
 -- the outcome for the files that were read: they are confirmed only if they are the files of a published election
 pub record IsFoundConfirmed (found : List FolderFile) (count : ℕ) : Type 0 where
