@@ -96,16 +96,16 @@ folder_confirmed held path inside found count listed read all confirmed = record
 
 -- ---- the wards
 
-sealed_in-append : (wards more : List FolderWard) → sealed_in (wards ++ more) ≡ sealed_in wards ++ sealed_in more
+pub sealed_in-append : (wards more : List FolderWard) → sealed_in (wards ++ more) ≡ sealed_in wards ++ sealed_in more
 sealed_in-append [] more = refl
 sealed_in-append (is_sealed w ∷ wards) more = ap (λ ws. w ∷ ws) (sealed_in-append wards more)
 sealed_in-append (is_unsealed w ∷ wards) more = sealed_in-append wards more
 
-map-push : {X Y : Type 0} (f : X → Y) (xs : List X) (x : X) → map f (xs ++ x ∷ []) ≡ map f xs ++ f x ∷ []
+pub map-push : {X Y : Type 0} (f : X → Y) (xs : List X) (x : X) → map f (xs ++ x ∷ []) ≡ map f xs ++ f x ∷ []
 map-push f [] x = refl
 map-push f (y ∷ ys) x = ap (λ zs. f y ∷ zs) (map-push f ys x)
 
-append_none : {X : Type 0} (xs : List X) → xs ++ [] ≡ xs
+pub append_none : {X : Type 0} (xs : List X) → xs ++ [] ≡ xs
 append_none [] = refl
 append_none (x ∷ xs) = ap (λ ys. x ∷ ys) (append_none xs)
 
@@ -139,7 +139,7 @@ sealed_made title listed texts ward so made =
 
 -- ---- the files
 
-map_twice : {X Y Z : Type 0} (f : Y → Z) (g : X → Y) (xs : List X) → map f (map g xs) ≡ map (λ x. f (g x)) xs
+pub map_twice : {X Y Z : Type 0} (f : Y → Z) (g : X → Y) (xs : List X) → map f (map g xs) ≡ map (λ x. f (g x)) xs
 map_twice f g [] = refl
 map_twice f g (x ∷ xs) = ap (λ zs. f (g x) ∷ zs) (map_twice f g xs)
 
@@ -149,10 +149,12 @@ pub files_published : (title : Text) (listed : List ListedEntry) (texts : List W
 files_published title listed texts files made ordered are = record {
   title = title;
   wards = made.wards;
+  so = record {
   counted = made.so;
   ordered = ap (ascend_from 0) (sym (map_twice (λ (ward : ListedEntry). ward.number) listed_of made.wards) ∙ ap (map (λ (ward : ListedEntry). ward.number)) (sym made.listed_are)) ∙ ordered;
   are = are ∙ (ap (λ (ls : List ListedEntry). published (record { title = title; index = index title ls; wards = texts })) made.listed_are
       ∙ ap (λ (ts : List WardEntry). published (record { title = title; index = index title (map listed_of made.wards); wards = ts })) made.texts_are);
+  };
 }
 
 -- ---- for the functions
@@ -178,14 +180,14 @@ sealed_pushed title old new old_texts new_texts ward more more_texts is made =
     (sealed_made title (map listed old) (map told_texts old_texts) is.ward is.so made))
 
 -- a ward that was counted from ballots is sealed, if these are the ballots that it prints
-pub ward_made : (title ballots : Text) (is_declared : Bool) (reading : ReaderEntry) (made : SealedWard) → read ballots ≡ Ok reading → IsReadingMade title reading is_declared made
-    → string_bytes made.texts.ballots ≡ ballots → IsWardMade title made
-ward_made title ballots is_declared reading made understood is same =
+pub ward_made : (title ballots : Text) (is_declared : Bool) (text : Option Text) (reading : ReaderEntry) (made : SealedWard) → read ballots ≡ Ok reading
+    → IsReadingMade title reading is_declared text made → string_bytes made.texts.ballots ≡ ballots → IsWardMade title made
+ward_made title ballots is_declared text reading made understood is same =
     let w : SealedEntry = record { reading = reading; count = is.count; stages = is.stages; is_declared = is_declared } in
     let own : string_bytes made.texts.ballots ≡ ballots_of w = ap (λ (t : WardEntry). unwrap_or t.ballots []) is.texts_are in
     record {
       ward = w;
-      so = record { understood = ap read (sym own ∙ same) ∙ understood; counted = is.counted; ends = is.ends; shows = is.shows };
+      so = record { understood = ap read (sym own ∙ same) ∙ understood; counted = is.counted; ends = is.ends; shows = is.shows.shows };
       texts_are = is.texts_are;
       listed_is = is.listed_is;
     }
@@ -217,9 +219,3 @@ unsealed_listed number seats name is_keying standing elected so none =
       ward = record { number = number; name = name; seats = seats; is_keying = is_keying };
       listed_is = ap (λ s. listed_so s elected) so ∙ ap (λ es. listed_so (if is_keying then Keying else Nominations) es) none;
     }
-
--- the outcome for a folder, given that for its files
-pub folder_checked : (held : InputFiles) (path : Text) (inside : List Text) (found : List FolderFile) (checked : FolderChecked) → HoldsNames held path inside
-    → map name_of found ≡ inside → All (IsFileIn held path) found → IsFoundChecked found checked → IsFolderChecked held path checked
-folder_checked held path inside found (Confirmed count) listed read all so = folder_confirmed held path inside found count listed read all so
-folder_checked held path inside found (Differs lines) listed read all so = tt

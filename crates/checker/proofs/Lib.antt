@@ -18,4 +18,5 @@ pub mod CommentLaws
 pub mod ReadBackLaws
 pub mod OwnBallots
 pub mod FolderLemmas
+pub mod IndexLaws
 pub mod WorkedBallots

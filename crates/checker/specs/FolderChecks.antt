@@ -1,9 +1,9 @@
 -- The outcome of checking a folder.
-use Rattle.std.specs.Prelude.{◌≡◌, ¬◌, ℕ, true, List, length, Some, Ok, ⊤}
+use Rattle.std.specs.Prelude.{◌≡◌, ℕ, true, List, length, Some, Ok}
 use Rattle.std.specs.List.{All, Contains}
 use Rattle.publication.specs.Files.{FileEntry, names}
 use Rattle.checker.specs.Folders.{IsConfirmedFolder, IsOfficeFolder, IsPublishedFolder}
-use Rattle.checker.specs.FolderViews.{are_same}
+use Rattle.checker.specs.FolderViews.{AreFound, are_same}
 use Rattle.checker.specs.InputFiles.{InputFiles}
 use Rattle.checker.specs.Tokens.{Text}
 use Rattle.checker.specs.declared.folder_checking.FolderChecked.{FolderChecked}
@@ -28,7 +28,7 @@ abbrev pub IsFolderChecked : InputFiles → Text → FolderChecked → Type 0
 IsFolderChecked held path (Confirmed files) = IsConfirmedFolder held path files
 IsFolderChecked held path (Differs lines) = IsNoOfficeFolder held path
 
--- the outcome for the files that were read: they are confirmed only if they are the files of a published election
+-- the outcome for the files that were read: they are confirmed only if they are the files of a published election, and each that an office published with the ballots is
 pub record IsFoundConfirmed (found : List FolderFile) (count : ℕ) : Type 0 where
   pub files : List FileEntry
   pub same : are_same found files ≡ true
@@ -37,4 +37,4 @@ pub record IsFoundConfirmed (found : List FolderFile) (count : ℕ) : Type 0 whe
 
 abbrev pub IsFoundChecked : List FolderFile → FolderChecked → Type 0
 IsFoundChecked found (Confirmed files) = IsFoundConfirmed found files
-IsFoundChecked found (Differs lines) = ⊤
+IsFoundChecked found (Differs lines) = (files : List FileEntry) → AreFound found files → ¬ (IsOfficeFolder files)

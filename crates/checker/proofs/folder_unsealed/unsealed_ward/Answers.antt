@@ -1,7 +1,7 @@
 -- Proof that `unsealed_ward` meets its contract.
 use Rattle.std.specs.Prelude.{string_bytes}
 use Rattle.checker.proofs.FolderLemmas.{unsealed_listed}
-use Rattle.checker.proofs.folder_election.unsealed_ward.Goals as goal
+use Rattle.checker.proofs.folder_unsealed.unsealed_ward.Goals as goal
 
 pub returns : goal.returns
 returns c =
