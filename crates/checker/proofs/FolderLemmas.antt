@@ -1,6 +1,6 @@
 -- A folder whose files were read and compared, and its wards one by one.
 use Rattle.std.proofs.Common.{◌≡◌, ◌∙◌, ℕ, ◌<◌, Bool, true, false, String, Global, List, [], ◌∷◌, ◌++◌, length, map, refl, sym, ap, subst, arith}
-use Rattle.std.specs.Prelude.{if◌then◌else◌, Ok, bytes_eq, string_bytes}
+use Rattle.std.specs.Prelude.{if◌then◌else◌, Ok, Option, Some, bytes_eq, string_bytes}
 use Rattle.std.specs.Option.{unwrap_or}
 use Rattle.std.specs.List.{All, Contains, list_all}
 use Rattle.std.proofs.lemmas.List.{get_or-map, length-map, take_all}
@@ -13,14 +13,16 @@ use Rattle.publication.specs.declared.files.PublishedFile.{PublishedFile}
 use Rattle.publication.specs.Folder.{published}
 use Rattle.count.specs.declared.stages.Stage.{Stage}
 use Rattle.sheet.specs.Index.{ListedEntry, elected_shown, index, listed}
+use Rattle.sheet.specs.Sheet.{sheet}
 use Rattle.sheet.specs.declared.index.WardStanding.{WardStanding}
 use Rattle.sheet.specs.declared.index.WardStanding.TheVariants.{Keying, Nominations}
 use Rattle.sheet.specs.declared.index.ListedWard.{ListedWard}
 use Rattle.checker.specs.FolderChecks.{IsFolderChecked, IsFoundChecked, IsFoundConfirmed}
 use Rattle.checker.specs.FolderViews.{IsContent, IsFileIn, are_same, has_name, has_text, is_file, is_found, is_named, name_of}
-use Rattle.checker.specs.FolderWards.{AreWardsMade, IsElectionMade, IsReadingMade, IsUnsealedMade, IsWardMade, made_election, told_texts}
+use Rattle.checker.specs.FolderWards.{AreWardsMade, IsElectionMade, IsMadeAs, IsMadeFrom, IsReadingMade, IsUnsealedMade, IsWardMade, made_election, told_texts}
 use Rattle.checker.specs.Folders.{AreShown, FolderWard, HasExactly, IsConfirmedFolder, IsPublishedFolder, IsSealed, SealedEntry, UnsealedEntry}
-use Rattle.checker.specs.Folders.{ballots_of, is_sealed, is_unsealed, listed_of, sealed_in, texts_of}
+use Rattle.checker.specs.Folders.{ballots_of, is_sealed, is_unsealed, listed_as, listed_of, lots_of, passed_of, sealed_in, texts_as, texts_of, ward_of}
+use Rattle.checker.specs.Counts.{surpluses_in}
 use Rattle.checker.specs.InputFiles.{InputFiles, HoldsInside, HoldsNames}
 use Rattle.checker.specs.Reading.{ReaderEntry, read}
 use Rattle.checker.specs.Tokens.{Text}
@@ -32,6 +34,7 @@ use Rattle.checker.specs.declared.folder_files.FileContent.TheVariants.{Bytes, U
 use Rattle.checker.specs.declared.folder_files.FolderFile.{FolderFile}
 use Rattle.checker.specs.declared.folder_texts.SealedTexts.{SealedTexts}
 use Rattle.checker.specs.declared.folder_wards.SealedWard.{SealedWard}
+use Rattle.checker.proofs.CountLemmas.{ward_once}
 use Rattle.checker.proofs.LineLaws.{and_parts}
 use Rattle.checker.proofs.NumberLaws.{pointwise_same}
 
@@ -219,3 +222,36 @@ unsealed_listed number seats name is_keying standing elected so none =
       ward = record { number = number; name = name; seats = seats; is_keying = is_keying };
       listed_is = ap (λ s. listed_so s elected) so ∙ ap (λ es. listed_so (if is_keying then Keying else Nominations) es) none;
     }
+
+-- ---- a ward that was made again from the ballots of an office
+
+read_once : (text : Text) (one other : ReaderEntry) → read text ≡ Ok one → read text ≡ Ok other → one ≡ other
+read_once text one other is also = cc
+
+made_again : (title : Text) (text : Option Text) (made : SealedWard) (ward : SealedEntry) → IsSealed ward → text ≡ Some (sheet (ward_of ward) ward.stages)
+    → IsReadingMade title ward.reading ward.is_declared text made → IsMadeAs title ward made
+made_again title text made ward so sheet_is is =
+    let w = ward_of ward in
+    let bundles = ward.reading.papers.bundles in
+    let lots = ward.reading.remarks.lots in
+    let count = ward_once w.poll w bundles lots is.count ward.count is.counted so.counted in
+    let stages : is.stages ≡ ward.stages = is.shows.alone ward.stages (subst (λ all. AreShown ward.is_declared all ward.stages) (sym count.stages) so.shows) sheet_is in
+    record {
+      texts_are = is.texts_are
+          ∙ (ap (λ ss. texts_as title w bundles (lots_of ward) ss (surpluses_in w.poll w bundles lots (length ss)) is.count.elected ward.is_declared) stages
+          ∙ ap (λ elected. texts_as title w bundles (lots_of ward) ward.stages (passed_of ward) elected ward.is_declared) count.elected);
+      listed_is = is.listed_is ∙ ap (λ elected. listed_as w elected ward.is_declared) count.elected;
+    }
+
+-- the ward of an office is made again from its ballots and its sheet
+pub made_from : (title ballots : Text) (is_declared : Bool) (text : Option Text) (reading : ReaderEntry) (made : SealedWard) (ward : SealedEntry) → read ballots ≡ Ok reading
+    → IsReadingMade title reading is_declared text made → IsMadeFrom ward ballots is_declared text → IsMadeAs title ward made
+made_from title ballots is_declared text reading made ward understood is from =
+    let same : reading ≡ ward.reading = read_once ballots reading ward.reading understood (ap read from.ballots_are ∙ from.so.understood) in
+    let own = subst (λ d. IsReadingMade title ward.reading d text made) from.declared_is (subst (λ r. IsReadingMade title r is_declared text made) same is) in
+    made_again title text made ward from.so from.sheet_is own
+
+-- and its ballots are written as they were
+pub made_ballots : (title ballots : Text) (is_declared : Bool) (text : Option Text) (made : SealedWard) (ward : SealedEntry) → IsMadeAs title ward made
+    → IsMadeFrom ward ballots is_declared text → string_bytes made.texts.ballots ≡ ballots
+made_ballots title ballots is_declared text made ward told from = ap (λ (t : WardEntry). unwrap_or t.ballots []) told.texts_are ∙ sym from.ballots_are

@@ -19,4 +19,5 @@ pub mod ReadBackLaws
 pub mod OwnBallots
 pub mod FolderLemmas
 pub mod IndexLaws
+pub mod StageLaws
 pub mod WorkedBallots
