@@ -223,6 +223,17 @@ unsealed_listed number seats name is_keying standing elected so none =
       listed_is = ap (λ s. listed_so s elected) so ∙ ap (λ es. listed_so (if is_keying then Keying else Nominations) es) none;
     }
 
+-- a ward that isn't sealed, as it is listed, given that it was read back
+pub unsealed_again : (number seats : ℕ) (name : Text) (is_keying : Bool) (standing : WardStanding) (elected : List (ℕ × String Global)) (ward : UnsealedEntry)
+    → standing ≡ (if is_keying then Keying else Nominations) → elected ≡ [] → number ≡ ward.number → name ≡ ward.name → seats ≡ ward.seats → is_keying ≡ ward.is_keying
+    → record { number = number; name = name; seats = seats; standing = standing; is_contested = false; elected = map elected_shown elected } ≡ listed_of (is_unsealed ward)
+unsealed_again number seats name is_keying standing elected ward so none numbered named seated keying =
+    let entry : ℕ → ℕ → Text → WardStanding → List (ℕ × String Global) → ListedEntry =
+    λ n k t s es. record { number = n; name = t; seats = k; standing = s; is_contested = false; elected = map elected_shown es } in
+    ap (λ n. entry n seats name standing elected) numbered ∙ (ap (λ t. entry ward.number seats t standing elected) named
+    ∙ (ap (λ k. entry ward.number k ward.name standing elected) seated ∙ (ap (λ s. entry ward.number ward.seats ward.name s elected) (so ∙ ap (λ k. if k then Keying else Nominations) keying)
+    ∙ ap (λ es. entry ward.number ward.seats ward.name (if ward.is_keying then Keying else Nominations) es) none)))
+
 -- ---- a ward that was made again from the ballots of an office
 
 read_once : (text : Text) (one other : ReaderEntry) → read text ≡ Ok one → read text ≡ Ok other → one ≡ other

@@ -20,4 +20,7 @@ pub mod OwnBallots
 pub mod FolderLemmas
 pub mod IndexLaws
 pub mod StageLaws
+pub mod OfficeFolders
+pub mod FoundLaws
+pub mod PublishedLaws
 pub mod WorkedBallots

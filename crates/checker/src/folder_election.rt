@@ -1,6 +1,6 @@
 //! The election published in a folder, made again from its ballots.
 
-ghost use Rattle.std.specs.Prelude.{◌≡◌, map, true, codes, option_copied, string_bytes, IfOk, IfErr, List, OnOk};
+ghost use Rattle.std.specs.Prelude.{◌≡◌, ◌++◌, ◌∷◌, [], map, true, codes, option_copied, string_bytes, IfOk, IfErr, List, OnOk};
 ghost use Rattle.std.specs.List.{All};
 ghost use Rattle.std.specs.Str.{is_utf8};
 ghost use Rattle.publication.specs.Election.{are_in_order, ascend_from, ward_entry};
@@ -69,6 +69,15 @@ pub(crate) fn ballots_name(alloc: Global, ward: u8) -> Result<String, AllocError
     ward_file(alloc, ward, "-ballots.txt")
 }
 
+/// Appends a ward that isn't sealed, as it is listed.
+fn push_listed(election: &mut FolderElection, ward: ListedWard) -> Result<(), AllocError>
+    ensures listed { OnOk result (election.new.listed.items ≡ election.old.listed.items ++ ward ∷ []) }
+    ensures sealed { OnOk result (election.new.sealed ≡ election.old.sealed) }
+{
+    election.listed.push(ward)?;
+    Ok(())
+}
+
 /// Appends a ward that isn't sealed.
 fn push_unsealed(
     alloc: Global,
@@ -81,7 +90,7 @@ fn push_unsealed(
         → OkUnless MakeFault.Memory result (λ done. IsAppended title election.old election.new (is_unsealed ward)) }
 {
     let ward = unsealed_ward(alloc, row, is_keying)?;
-    match election.listed.push(ward) {
+    match push_listed(election, ward) {
         Ok(()) => Ok(()),
         Err(_) => Err(MakeFault::Memory),
     }
@@ -193,7 +202,10 @@ fn election_of(
         sealed: Vec::new(alloc),
     };
     for row in rows {
-        push_row(alloc, title, found, &mut election, row)?;
+        match push_row(alloc, title, found, &mut election, row) {
+            Ok(()) => {}
+            Err(fault) => return Err(fault),
+        }
     }
     Ok(election)
 }
