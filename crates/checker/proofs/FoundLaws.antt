@@ -1,5 +1,5 @@
 -- The files of a folder of which everything is known are found.
-use Rattle.std.proofs.Common.{◌≡◌, ◌∙◌, ℕ, ◌<◌, Bool, true, false, List, [], ◌∷◌, length, map, refl, sym, ap, subst, arith, Some, None, Ok, Err}
+use Rattle.std.proofs.Common.{◌≡◌, ◌∙◌, ℕ, ◌<◌, Bool, true, false, List, [], ◌∷◌, get_or, length, map, refl, sym, ap, subst, arith, Some, None, Ok, Err}
 use Rattle.std.specs.Prelude.{◌&&◌, ◌||◌, if◌then◌else◌, Option, IfSome, Result, bytes_eq, string_bytes}
 use Rattle.std.specs.List.{All, AllByRecursion, Contains, list_all, list_any}
 use Rattle.std.proofs.lemmas.Bool.{false≢true}
@@ -104,6 +104,16 @@ module _ (held : InputFiles) (path : Text) (found : List FolderFile) (file : Fil
 name_known : (files : List FileEntry) (f : FolderFile) → Contains (names files) (name_of f) → is_named files f ≡ true
 name_known files f has = has_one (λ (file : FileEntry). file.name) files (name_of f) has
 
+down : (P : Text → Type 0) (fs : List FolderFile) → AllByRecursion P (map name_of fs) → AllByRecursion (λ f. P (name_of f)) fs
+down P [] every = tt
+down P (f ∷ fs) every = (every.0, down P fs every.1)
+
+names_known : (files : List FileEntry) (found : List FolderFile) (ns : List Text) → map name_of found ≡ ns → All (Contains (names files)) ns → All (λ f. is_named files f ≡ true) found
+names_known files found ns own alone =
+    let has : Text → Type 0 = Contains (names files) in
+    let each = down has found (recursion_from_All has (map name_of found) (subst (All has) (sym own) alone)) in
+    All-weaker (λ f. has (name_of f)) (λ f. is_named files f ≡ true) (λ f known. name_known files f known) found (All-from_recursion (λ f. has (name_of f)) found each)
+
 -- the files that were read are the given ones, if those are all that is known to be there
 pub all_found : (held : InputFiles) (path : Text) (inside : List Text) (found : List FolderFile) (files : List FileEntry) → HoldsNames held path inside
     → map name_of found ≡ inside → All (IsFileIn held path) found → IsKnownFolder held path files → AreFound found files
@@ -113,23 +123,12 @@ all_found held path inside found files listed read all known =
     let P : FileEntry → Type 0 = λ file. Contains known.inside file.name in
     let Q : FileEntry → Type 0 = λ file. held.inside path file.name ≡ Some (Ok file.text) in
     let both : (R : FileEntry → Type 0) → ((file : FileEntry) → Contains (map name_of found) file.name → held.inside path file.name ≡ Some (Ok file.text) → R file) → All R files =
-    λ R so k d within. so _ (subst (λ ns. Contains ns _) (sym own) (known.there k d within)) (known.same k d within) in
+    λ R so k d within. so (get_or files k d) (subst (λ ns. Contains ns (get_or files k d).name) (sym own) (known.there k d within)) (known.same k d within) in
     record {
       same = and_both _ _ (list_all-from_AllPass (is_found found) files (both (λ file. is_found found file ≡ true) (λ file here is. known_found held path found file each here is)))
-          (list_all-from_AllPass (is_named files) found (names_known own known.alone));
+          (list_all-from_AllPass (is_named files) found (names_known files found known.inside own known.alone));
       each = both (λ file. bytes_named file.name found ≡ Some file.text) (λ file here is. known_named held path found file each here is);
     }
-  where
-    names_known : {ns : List Text} → map name_of found ≡ ns → All (Contains (names files)) ns → All (λ f. is_named files f ≡ true) found
-    names_known own alone = All-weaker (λ f. Contains (names files) (name_of f)) (λ f. is_named files f ≡ true) (λ f has. name_known files f has) found
-        (unmap (Contains (names files)) found (subst (All (Contains (names files))) (sym own) alone))
-
-    unmap : (P : Text → Type 0) (fs : List FolderFile) → All P (map name_of fs) → All (λ f. P (name_of f)) fs
-    unmap P fs every = All-from_recursion (λ f. P (name_of f)) fs (down fs (recursion_from_All P (map name_of fs) every))
-      where
-        down : (gs : List FolderFile) → AllByRecursion P (map name_of gs) → AllByRecursion (λ f. P (name_of f)) gs
-        down [] every = tt
-        down (g ∷ gs) every = (every.0, down gs every.1)
 
 -- the outcome for a folder, given that for its files
 pub folder_checked : (held : InputFiles) (path : Text) (inside : List Text) (found : List FolderFile) (checked : FolderChecked) → HoldsNames held path inside
