@@ -17,7 +17,7 @@ use Rattle.sheet.specs.Sheet.{sheet}
 use Rattle.sheet.specs.declared.index.WardStanding.{WardStanding}
 use Rattle.sheet.specs.declared.index.WardStanding.TheVariants.{Keying, Nominations}
 use Rattle.sheet.specs.declared.index.ListedWard.{ListedWard}
-use Rattle.checker.specs.FolderChecks.{IsFolderChecked, IsFoundChecked, IsFoundConfirmed}
+use Rattle.checker.specs.FolderChecks.{IsFoundConfirmed}
 use Rattle.checker.specs.FolderViews.{IsContent, IsFileIn, are_same, has_name, has_text, is_file, is_found, is_named, name_of}
 use Rattle.checker.specs.FolderWards.{AreWardsMade, IsElectionMade, IsMadeAs, IsMadeFrom, IsReadingMade, IsUnsealedMade, IsWardMade, made_election, told_texts}
 use Rattle.checker.specs.Folders.{AreShown, FolderWard, HasExactly, IsConfirmedFolder, IsPublishedFolder, IsSealed, SealedEntry, UnsealedEntry}
@@ -26,8 +26,6 @@ use Rattle.checker.specs.Counts.{surpluses_in}
 use Rattle.checker.specs.InputFiles.{InputFiles, HoldsInside, HoldsNames}
 use Rattle.checker.specs.Reading.{ReaderEntry, read}
 use Rattle.checker.specs.Tokens.{Text}
-use Rattle.checker.specs.declared.folder_checking.FolderChecked.{FolderChecked}
-use Rattle.checker.specs.declared.folder_checking.FolderChecked.TheVariants.{Confirmed, Differs}
 use Rattle.checker.specs.declared.folder_election.FolderElection.{FolderElection}
 use Rattle.checker.specs.declared.folder_files.FileContent.{FileContent}
 use Rattle.checker.specs.declared.folder_files.FileContent.TheVariants.{Bytes, Unread}
@@ -153,10 +151,10 @@ files_published title listed texts files made ordered are = record {
   title = title;
   wards = made.wards;
   so = record {
-  counted = made.so;
-  ordered = ap (ascend_from 0) (sym (map_twice (λ (ward : ListedEntry). ward.number) listed_of made.wards) ∙ ap (map (λ (ward : ListedEntry). ward.number)) (sym made.listed_are)) ∙ ordered;
-  are = are ∙ (ap (λ (ls : List ListedEntry). published (record { title = title; index = index title ls; wards = texts })) made.listed_are
-      ∙ ap (λ (ts : List WardEntry). published (record { title = title; index = index title (map listed_of made.wards); wards = ts })) made.texts_are);
+    counted = made.so;
+    ordered = ap (ascend_from 0) (sym (map_twice (λ (ward : ListedEntry). ward.number) listed_of made.wards) ∙ ap (map (λ (ward : ListedEntry). ward.number)) (sym made.listed_are)) ∙ ordered;
+    are = are ∙ (ap (λ (ls : List ListedEntry). published (record { title = title; index = index title ls; wards = texts })) made.listed_are
+        ∙ ap (λ (ts : List WardEntry). published (record { title = title; index = index title (map listed_of made.wards); wards = ts })) made.texts_are);
   };
 }
 

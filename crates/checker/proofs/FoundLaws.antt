@@ -1,16 +1,15 @@
 -- The files of a folder of which everything is known are found.
-use Rattle.std.proofs.Common.{◌≡◌, ◌∙◌, ℕ, ◌<◌, Bool, true, false, List, [], ◌∷◌, get_or, length, map, refl, sym, ap, subst, arith, Some, None, Ok, Err}
-use Rattle.std.specs.Prelude.{◌&&◌, ◌||◌, if◌then◌else◌, Option, IfSome, Result, bytes_eq, string_bytes}
-use Rattle.std.specs.List.{All, AllByRecursion, Contains, list_all, list_any}
+use Rattle.std.proofs.Common.{◌≡◌, ◌∙◌, Bool, true, false, List, [], ◌∷◌, get_or, map, refl, sym, ap, subst, Some, None, Ok, Err}
+use Rattle.std.specs.Prelude.{◌||◌, if◌then◌else◌, Option, IfSome, bytes_eq, string_bytes}
+use Rattle.std.specs.List.{All, AllByRecursion, Contains, list_any}
 use Rattle.std.proofs.lemmas.Bool.{false≢true}
-use Rattle.std.proofs.lemmas.List.Elements.{All-contains, All-from_recursion, All-map, All-weaker, recursion_from_All}
+use Rattle.std.proofs.lemmas.List.Elements.{All-from_recursion, All-weaker, recursion_from_All}
 use Rattle.std.proofs.lemmas.List.Folds.{list_any_at}
 use Rattle.std.proofs.lemmas.List.Sums.{list_all-from_AllPass}
 use Rattle.publication.specs.Files.{FileEntry, names}
-use Rattle.checker.specs.FolderChecks.{IsFolderChecked, IsFoundChecked, IsKnownFolder, IsNoOfficeFolder}
-use Rattle.checker.specs.Folders.{IsOfficeFolder}
-use Rattle.checker.specs.FolderViews.{AreFound, IsContent, IsFileIn, are_same, bytes_named, bytes_or, has_name, has_text, is_file, is_found, is_named, name_of}
-use Rattle.checker.specs.InputFiles.{File, Folder, InputFiles, HoldsInside, HoldsNames}
+use Rattle.checker.specs.FolderChecks.{IsFolderChecked, IsFoundChecked, IsKnownFolder}
+use Rattle.checker.specs.FolderViews.{AreFound, IsContent, IsFileIn, bytes_named, bytes_or, has_text, is_file, is_found, is_named, name_of}
+use Rattle.checker.specs.InputFiles.{File, Folder, InputFiles, HoldsNames}
 use Rattle.checker.specs.Tokens.{Text}
 use Rattle.checker.specs.declared.folder_checking.FolderChecked.{FolderChecked}
 use Rattle.checker.specs.declared.folder_checking.FolderChecked.TheVariants.{Confirmed, Differs}
@@ -82,7 +81,6 @@ named_bytes (f ∷ found) name text all any = by (bytes_eq (name_of f) name) ref
 -- a file that is known is found
 module _ (held : InputFiles) (path : Text) (found : List FolderFile) (file : FileEntry) (all : AllByRecursion (IsFileIn held path) found)
     (here : Contains (map name_of found) file.name) (known : held.inside path file.name ≡ Some (Ok file.text)) where
-
   weaken : {P Q : FolderFile → Type 0} → ((f : FolderFile) → P f → Q f) → (fs : List FolderFile) → AllByRecursion P fs → AllByRecursion Q fs
   weaken so [] each = tt
   weaken so (f ∷ fs) each = (so f each.0, weaken so fs each.1)

@@ -1,19 +1,17 @@
 -- The wards of a folder that an office published, made again one by one.
-use Rattle.std.proofs.Common.{◌≡◌, ◌∙◌, ℕ, ◌+◌, ◌<◌, ◌≤◌, Bool, true, false, List, [], ◌∷◌, ◌++◌, get_or, length, map, take, refl, sym, ap, subst, arith, Some, None, Ok, Err}
-use Rattle.std.specs.Prelude.{Option, Result, codes, if◌then◌else◌}
+use Rattle.std.proofs.Common.{◌≡◌, ◌∙◌, ℕ, ◌+◌, ◌<◌, ◌≤◌, Bool, true, false, List, [], ◌∷◌, ◌++◌, get_or, length, map, take, refl, sym, ap, subst, arith, Some, None}
+use Rattle.std.specs.Prelude.{Option, codes, if◌then◌else◌}
 use Rattle.std.specs.List.{All}
 use Rattle.std.proofs.lemmas.List.{get_or-map, length-map, map-append, take_all, take_more}
 use Rattle.std.proofs.lemmas.List.Elements.{All-get_or}
 use Rattle.publication.specs.Election.{WardEntry}
 use Rattle.publication.specs.Parts.{ward_file}
 use Rattle.sheet.specs.Index.{ListedEntry, listed}
-use Rattle.sheet.specs.Sheet.{sheet}
 use Rattle.sheet.specs.declared.index.ListedWard.{ListedWard}
-use Rattle.sheet.specs.declared.index.WardStanding.{WardStanding}
 use Rattle.sheet.specs.declared.index.WardStanding.TheVariants.{Nominations, Keying, Sealed, Declared}
 use Rattle.checker.specs.FolderViews.{bytes_named}
-use Rattle.checker.specs.Folders.{FolderWard, IsUnsealedText, SealedEntry, UnsealedEntry, ballots_of, is_sealed, is_unsealed, listed_of, sealed_in, texts_of, ward_of}
-use Rattle.checker.specs.FolderWards.{AreMadeAs, HasTexts, IsAppended, IsGiven, IsMadeAs, IsMadeFrom, OkUnless, row_listed, told_texts}
+use Rattle.checker.specs.Folders.{FolderWard, IsUnsealedText, SealedEntry, UnsealedEntry, is_sealed, is_unsealed, listed_of, sealed_in, texts_of, ward_of}
+use Rattle.checker.specs.FolderWards.{AreMadeAs, HasTexts, IsAppended, IsGiven, IsMadeFrom, row_listed, told_texts}
 use Rattle.checker.specs.IndexPage.{RowEntry, row_entry}
 use Rattle.checker.specs.Tokens.{Text}
 use Rattle.checker.specs.declared.folder_election.FolderElection.{FolderElection}
@@ -22,7 +20,6 @@ use Rattle.checker.specs.declared.folder_election.MakeFault.TheVariants as fault
 use Rattle.checker.specs.declared.folder_files.FolderFile.{FolderFile}
 use Rattle.checker.specs.declared.folder_index.IndexRow.{IndexRow}
 use Rattle.checker.specs.declared.folder_texts.SealedTexts.{SealedTexts}
-use Rattle.checker.specs.declared.folder_wards.SealedWard.{SealedWard}
 use Rattle.checker.proofs.FolderLemmas.{append_none, map-push, sealed_in-append}
 
 -- ---- a ward that is appended

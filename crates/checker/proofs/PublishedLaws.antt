@@ -1,29 +1,28 @@
 -- What is published of the wards of an office is in its folder, and can be published again.
-use Rattle.std.proofs.Common.{◌≡◌, ◌∙◌, ℕ, ◌+◌, ◌-◌, ◌<◌, ◌≤◌, Bool, true, false, List, [], ◌∷◌, ◌++◌, drop, length, map, take, refl, sym, ap, subst, arith, append_assoc, length-append, Some, None}
+use Rattle.std.proofs.Common.{◌≡◌, ◌∙◌, ℕ, ◌+◌, ◌-◌, ◌≤◌, Bool, true, false, List, [], ◌∷◌, ◌++◌, drop, length, map, take, refl, sym, ap, subst, arith, append_assoc, length-append, Some, None}
 use Rattle.std.specs.Prelude.{◌&&◌, nat_eq, nat_le, nat_lt, codes, if◌then◌else◌, Option}
-use Rattle.std.specs.List.{All, AllByRecursion, ends_with, flat_map, list_all}
+use Rattle.std.specs.List.{All, AllByRecursion, flat_map, list_all}
 use Rattle.std.specs.Cmp.Lexicographic.{pointwise}
 use Rattle.std.proofs.lemmas.Bool.{leb-true, ltb-true, le-leb}
 use Rattle.std.proofs.lemmas.List.{drop_at, take_at}
-use Rattle.std.proofs.lemmas.List.Elements.{All-cons, All-head, All-nil, All-tail, recursion_from_All}
-use Rattle.publication.specs.Election.{ElectionEntry, WardEntry, are_in_order, ascend_from}
+use Rattle.std.proofs.lemmas.List.Elements.{All-cons, All-nil, recursion_from_All}
+use Rattle.publication.specs.Election.{WardEntry, are_in_order, ascend_from}
 use Rattle.publication.specs.Files.{FileEntry, file}
-use Rattle.publication.specs.Folder.{index_file, part_file, published, summed_files, ward_files, ward_page_file}
+use Rattle.publication.specs.Folder.{part_file, published, summed_files, ward_files}
 use Rattle.publication.specs.Links.{index_links}
-use Rattle.publication.specs.Pages.{are_pages, front_of, is_page, linked, page_end}
-use Rattle.publication.specs.Parts.{PartEntry, ballots_part, declaration_part, sheet_part, table_part, ward_file, ward_parts}
+use Rattle.publication.specs.Pages.{are_pages, is_page, linked, page_end}
+use Rattle.publication.specs.Parts.{ballots_part, declaration_part, sheet_part, table_part, ward_file}
 use Rattle.sheet.specs.Entries.{SheetEntry}
 use Rattle.sheet.specs.Index.{ListedEntry, index, listed}
 use Rattle.sheet.specs.Lines.{joined, line, named, plain}
-use Rattle.sheet.specs.Page.{elected_items, elected_text, empty_seats, foot, grounds, left_in, page, page_head, signatures}
-use Rattle.sheet.specs.Sheet.{sheet}
+use Rattle.sheet.specs.Page.{elected_items, elected_text, empty_seats, foot, grounds, left_in, page, page_head}
 use Rattle.count.specs.declared.stages.Stage.{Stage}
 use Rattle.sheet.specs.declared.surpluses.PassedOn.{PassedOn}
 use Rattle.sheet.specs.declared.index.ListedWard.{ListedWard}
 use Rattle.checker.specs.FolderViews.{AreFound, bytes_named}
-use Rattle.checker.specs.Folders.{ArePublished, FolderWard, IsOfficeFolder, IsSealed, IsUnsealedText, SealedEntry, UnsealedEntry}
+use Rattle.checker.specs.Folders.{FolderWard, IsOfficeFolder, IsSealed, IsUnsealedText, SealedEntry}
 use Rattle.checker.specs.Folders.{ballots_of, election_of, is_sealed, is_unsealed, listed_of, sealed_in, texts_of, unsealed_in, ward_of}
-use Rattle.checker.specs.FolderWards.{AreMadeAs, HasTexts, IsGiven, made_election, page_of, row_listed, told_texts}
+use Rattle.checker.specs.FolderWards.{AreMadeAs, IsGiven, made_election, page_of, row_listed, told_texts}
 use Rattle.checker.specs.IndexPage.{page_in}
 use Rattle.checker.specs.Tokens.{Text}
 use Rattle.checker.specs.declared.folder_election.FolderElection.{FolderElection}
@@ -49,7 +48,7 @@ index_is_page title es = ends_behind (page_front title es) (codes "</tbody>\n</t
 foot_ends : (ward : SheetEntry) (is_declared : Bool) (stages : List Stage) → (front : Text) × (foot ward is_declared stages ≡ front ++ page_end)
 foot_ends ward true stages =
     let a = line (codes "<div class=\"sign\">\n<h2>Ward " ∷ named ward.number ward.name ∷ codes ": elected</h2>\n<ul>" ∷ []) ++ elected_items ward ward.poll stages
-        ++ empty_seats (left_in ward ward.poll stages) in
+    ++ empty_seats (left_in ward ward.poll stages) in
     let b = codes "</ul>\n<h2>Signed</h2>\n<p>Date</p>\n<p>Returning officer</p>\n<p>First witness</p>\n<p>Second witness</p>\n</div>\n" in
     (a ++ b, sym (append_assoc a b page_end))
 foot_ends ward false stages = ([], refl)
@@ -116,10 +115,11 @@ linked_begins : (links title : Text) (es : List ListedEntry) → (rest : Text) �
 unfolding joined
 linked_begins links title es =
     let front = page_front title es in
-    let at = front_cases (is_page (index title es)) front in
-    (at.0 ++ (links ++ (page_end ++ [])),
-    ap (λ t. t ++ (links ++ (page_end ++ []))) at.1
-    ∙ (append_assoc front (codes "</tbody>" ++ at.0) (links ++ (page_end ++ [])) ∙ ap (λ t. front ++ t) (append_assoc (codes "</tbody>") at.0 (links ++ (page_end ++ [])))))
+    let at = front_cases (is_page (index title es)) front in (
+      at.0 ++ (links ++ (page_end ++ [])),
+      ap (λ t. t ++ (links ++ (page_end ++ []))) at.1
+          ∙ (append_assoc front (codes "</tbody>" ++ at.0) (links ++ (page_end ++ [])) ∙ ap (λ t. front ++ t) (append_assoc (codes "</tbody>") at.0 (links ++ (page_end ++ [])))),
+    )
 
 -- the page of all wards is read back
 page_read : (links title : Text) (wards : List FolderWard) → ascend_from 0 (map (λ ward. (listed_of ward).number) wards) ≡ true

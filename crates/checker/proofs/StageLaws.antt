@@ -1,6 +1,6 @@
 -- The stages that a stage sheet shows.
-use Rattle.std.proofs.Common.{◌≡◌, ◌∙◌, ℕ, zero, suc, ◌+◌, ◌<◌, ◌≤◌, Bool, true, false, List, [], ◌∷◌, ◌++◌, length, take, refl, sym, ap, subst, arith, length-append, inl, inr, Some, None}
-use Rattle.std.specs.Prelude.{◌⊎◌, Option, bytes_eq, nat_eq}
+use Rattle.std.proofs.Common.{◌≡◌, ◌∙◌, ℕ, zero, suc, ◌<◌, true, false, List, [], ◌∷◌, ◌++◌, length, take, refl, sym, ap, subst, arith, length-append, inl, inr, Some, None}
+use Rattle.std.specs.Prelude.{Option, bytes_eq, nat_eq}
 use Rattle.std.proofs.lemmas.Bool.{cases_lt, eq-eqb, false≢true}
 use Rattle.std.proofs.lemmas.List.{append_cancel_left, take_all}
 use Rattle.count.specs.Bundles.{Bundle}
@@ -93,9 +93,9 @@ shown_otherwise ward all stages text none whole shows = record {
   where
     never : (k : ℕ) → text ≡ sheet ward (take k all) → ⊥
     never k same = elim (cases_lt k (length all)) [
-        inl below ↦ false≢true (sym (none k below) ∙ bytes_same (sheet ward (take k all)) text (sym same))
-        | inr above ↦ false≢true (sym whole ∙ bytes_same (sheet ward all) text (sym (same ∙ ap (sheet ward) (take_all k all above))))
-        ]
+      | inl below ↦ false≢true (sym (none k below) ∙ bytes_same (sheet ward (take k all)) text (sym same))
+      | inr above ↦ false≢true (sym whole ∙ bytes_same (sheet ward all) text (sym (same ∙ ap (sheet ward) (take_all k all above))))
+    ]
 
 -- the whole count is shown of a declared ward
 pub shown_declared : (ward : SheetEntry) (text : Option Text) (all : List Stage) → AreShownBy ward true text all all

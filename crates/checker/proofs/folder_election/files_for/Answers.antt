@@ -1,5 +1,5 @@
 -- Proof that `files_for` meets its contract.
-use Rattle.std.proofs.Common.{◌≡◌, ◌∙◌, ap, map, rules, subst, sym, true}
+use Rattle.std.proofs.Common.{◌≡◌, ◌∙◌, ap, map, rules, sym, true}
 use Rattle.publication.specs.Election.{ascend_from}
 use Rattle.publication.specs.Files.{file_entry}
 use Rattle.publication.specs.Folder.{published}

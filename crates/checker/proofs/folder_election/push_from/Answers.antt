@@ -3,8 +3,6 @@ use Rattle.std.proofs.Common.{◌≡◌, ◌∙◌, ap, sym, Some}
 use Rattle.std.specs.Prelude.{codes, option_copied}
 use Rattle.publication.specs.Parts.{ward_file}
 use Rattle.checker.specs.FolderViews.{bytes_named}
-use Rattle.checker.specs.Folders.{SealedEntry}
-use Rattle.checker.specs.FolderWards.{HasTexts, IsMadeFrom}
 use Rattle.checker.proofs.OfficeFolders.{from_texts}
 use Rattle.checker.proofs.folder_election.push_from.Goals as goal
 

@@ -1,7 +1,6 @@
 -- Proof that `ward_file` meets its contract.
 use Rattle.std.proofs.Common.{◌≡◌, ◌∙◌, ◌++◌, [], ◌∷◌, ap, sym, append_assoc, append-nil}
 use Rattle.std.specs.Prelude.{codes, decimal, string_bytes}
-use Rattle.publication.specs.Parts.{ward_file}
 use Rattle.sheet.specs.Lines.{joined}
 use Rattle.checker.specs.Tokens.{Text}
 use Rattle.checker.proofs.folder_election.ward_file.Goals as goal

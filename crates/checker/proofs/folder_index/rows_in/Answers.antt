@@ -1,5 +1,5 @@
 -- Proof that `rows_in` meets its contract.
-use Rattle.std.proofs.Common.{◌≡◌, ◌∙◌, ◌++◌, [], ◌∷◌, ap, drop, length, map, sym, subst, false, ◌+◌, Some, None}
+use Rattle.std.proofs.Common.{◌≡◌, ◌∙◌, ◌++◌, ap, drop, map, sym, subst, false, ◌+◌, Some, None}
 use Rattle.std.specs.Prelude.{codes, option_copied, option_map}
 use Rattle.std.proofs.lemmas.List.{take_rest}
 use Rattle.checker.specs.IndexPage.{begins, behind, row_at, row_entry, rows_in, with_row}

@@ -2,7 +2,7 @@
 use Rattle.std.proofs.Common.{◌≡◌, rules, true}
 use Rattle.std.specs.Prelude.{bytes_eq, option_copied, string_bytes}
 use Rattle.checker.specs.Values.{ballots_of}
-use Rattle.checker.proofs.FolderLemmas.{made_ballots, made_from, ward_made}
+use Rattle.checker.proofs.FolderLemmas.{made_from, ward_made}
 use Rattle.checker.proofs.NumberLaws.{pointwise_same}
 use Rattle.checker.proofs.folder_wards.sealed_ward.Goals as goal
 
