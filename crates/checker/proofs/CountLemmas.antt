@@ -55,7 +55,8 @@ pub record AreSameCount (one other : WardCount) : Type 0 where
 whole_once : (contest : Contest) (lots : List (ℕ × ℕ)) (one other : History) → IsWholeCount contest lots one → IsWholeCount contest lots other → one ≡ other
 whole_once contest lots one other is also = also.equals_each contest.papers one (IsPermutation-refl contest.papers) is.ended
 
-end_once : (contest : Contest) (lots : List (ℕ × ℕ)) (one other : History) (why end : CountEnd) → one ≡ other → end_after contest lots one ≡ Some why → end_after contest lots other ≡ Some end → why ≡ end
+end_once : (contest : Contest) (lots : List (ℕ × ℕ)) (one other : History) (why end : CountEnd) → one ≡ other → end_after contest lots one ≡ Some why
+    → end_after contest lots other ≡ Some end → why ≡ end
 end_once contest lots one other why end same is also = some_once (sym is ∙ (ap (end_after contest lots) same ∙ also))
   where
     some_once : {x y : CountEnd} → Some x ≡ Some y → x ≡ y

@@ -1,5 +1,6 @@
 -- The page of all wards, read back.
-use Rattle.std.proofs.Common.{◌≡◌, ◌∙◌, ℕ, zero, suc, ◌+◌, ◌-◌, ◌/◌, ◌%◌, ◌<◌, ◌≤◌, ◌&&◌, nat_eq, Bool, true, false, List, [], ◌∷◌, ◌++◌, length, drop, get_or, take, map, refl, sym, ap, subst, arith, append_assoc, Ok, Some, None}
+use Rattle.std.proofs.Common.{◌≡◌, ◌∙◌, ℕ, zero, suc, ◌+◌, ◌-◌, ◌/◌, ◌%◌, ◌<◌, ◌≤◌, ◌&&◌, nat_eq, Bool, true, false, List, [], ◌∷◌, ◌++◌, length, map}
+use Rattle.std.proofs.Common.{refl, sym, ap, arith, append_assoc, Ok, Some, None}
 use Rattle.std.specs.Prelude.{◌==◌, codes, if◌then◌else◌, Option}
 use Rattle.std.specs.Fmt.{decimal, digit_glyph, digits, digits_onto}
 use Rattle.std.specs.List.{AllByRecursion, flat_map, list_all, range_with_len}
@@ -14,7 +15,7 @@ use Rattle.sheet.specs.Page.{empty_seat, empty_seats, title_line, title_mark}
 use Rattle.sheet.specs.declared.index.WardStanding.{WardStanding}
 use Rattle.sheet.specs.declared.index.WardStanding.TheVariants.{Nominations, Keying, Sealed, Declared}
 use Rattle.checker.specs.FolderWards.{row_listed}
-use Rattle.checker.specs.IndexPage.{RowEntry, begins, behind, behind_comma, behind_first, field, page_in, from_first, row_at, row_with, rows_in, standing_at, title_in, unescaped, unescaped_from, until, with_row}
+use Rattle.checker.specs.IndexPage.{RowEntry, begins, behind, behind_comma, behind_first, field, page_in, from_first, row_at, row_with, rows_in, standing_at, title_in, until, with_row}
 use Rattle.checker.specs.Numbers.{number_in}
 use Rattle.checker.specs.Tokens.{Text}
 use Rattle.checker.proofs.LineLaws.{and_both, and_parts, figure_other, is_figure}
@@ -164,34 +165,34 @@ abbrev row_end : ListedEntry → Text → Text
 row_end e rest =
     line (codes "</td><td>\n<ul>" ∷ []) ++ (flat_map elected_name e.elected ++ (empty_seats (empty_in e.standing e.seats (length e.elected)) ++ (line (codes "</ul>\n</td></tr>" ∷ []) ++ rest)))
 
-abbrev p7 : List Text
-p7 = codes "</td><td>\n<ul>" ∷ []
+abbrev after_status : List Text
+after_status = codes "</td><td>\n<ul>" ∷ []
 
-abbrev p6 : ListedEntry → List Text
-p6 e = standing_words e.standing e.is_contested ∷ p7
+abbrev status_on : ListedEntry → List Text
+status_on e = standing_words e.standing e.is_contested ∷ after_status
 
-abbrev p5 : ListedEntry → List Text
-p5 e = codes "</td><td>" ∷ p6 e
+abbrev after_seats : ListedEntry → List Text
+after_seats e = codes "</td><td>" ∷ status_on e
 
-abbrev p4 : ListedEntry → List Text
-p4 e = decimal e.seats ∷ p5 e
+abbrev seats_on : ListedEntry → List Text
+seats_on e = decimal e.seats ∷ after_seats e
 
-abbrev p3 : ListedEntry → List Text
-p3 e = codes "</th><td>" ∷ p4 e
+abbrev after_name : ListedEntry → List Text
+after_name e = codes "</th><td>" ∷ seats_on e
 
 opening_split : (e : ListedEntry) (rest : Text) → row_opening e ++ rest ≡ codes "<tr><th scope=\"row\">" ++ row_text e (line (codes "</td><td>\n<ul>" ∷ []) ++ rest)
 opening_split e rest =
-    line_split (codes "<tr><th scope=\"row\">") (named e.number e.name ∷ p3 e) rest
+    line_split (codes "<tr><th scope=\"row\">") (named e.number e.name ∷ after_name e) rest
     ∙ ap (λ t. codes "<tr><th scope=\"row\">" ++ t)
-    (line_split (named e.number e.name) (p3 e) rest
+    (line_split (named e.number e.name) (after_name e) rest
     ∙ (ap (λ t. named e.number e.name ++ t)
-    (line_split (codes "</th><td>") (p4 e) rest
+    (line_split (codes "</th><td>") (seats_on e) rest
     ∙ ap (λ t. codes "</th><td>" ++ t)
-    (line_split (decimal e.seats) (p5 e) rest
+    (line_split (decimal e.seats) (after_seats e) rest
     ∙ ap (λ t. decimal e.seats ++ t)
-    (line_split (codes "</td><td>") (p6 e) rest
-    ∙ ap (λ t. codes "</td><td>" ++ t) (line_split (standing_words e.standing e.is_contested) p7 rest))))
-    ∙ named_split e.number e.name (codes "</th><td>" ++ (decimal e.seats ++ (codes "</td><td>" ++ (standing_words e.standing e.is_contested ++ (line p7 ++ rest)))))))
+    (line_split (codes "</td><td>") (status_on e) rest
+    ∙ ap (λ t. codes "</td><td>" ++ t) (line_split (standing_words e.standing e.is_contested) after_status rest))))
+    ∙ named_split e.number e.name (codes "</th><td>" ++ (decimal e.seats ++ (codes "</td><td>" ++ (standing_words e.standing e.is_contested ++ (line after_status ++ rest)))))))
 
 row_split : (e : ListedEntry) (rest : Text) → index_row e ++ rest ≡ codes "<tr><th scope=\"row\">" ++ row_text e (row_end e rest)
 row_split e rest =
@@ -343,7 +344,8 @@ after_style title = style ∷ codes "</style>\n</head>\n<body class=\"wards\">\n
 -- the title of a page is read back
 title_back : (title rest : Text) → title_in (index_opening title ++ rest) ≡ Some (plain title)
 title_back title rest =
-    let after : line (after_title title) ++ rest ≡ codes "<" ++ (codes "/title>\n<style>\n" ++ (line (after_style title) ++ rest)) = line_split (codes "</title>\n<style>\n") (after_style title) rest in
+    let after : line (after_title title) ++ rest ≡ codes "<" ++ (codes "/title>\n<style>\n" ++ (line (after_style title) ++ rest)) =
+    line_split (codes "</title>\n<style>\n") (after_style title) rest in
     ap title_in (opening_begins title rest) ∙ (title_found (title_mark title ++ (plain title ++ (line (after_title title) ++ rest)))
     ∙ ap Some (ap (λ t. until 60 (behind_comma (title_mark title ++ (plain title ++ t)))) after ∙ title_until title (codes "/title>\n<style>\n" ++ (line (after_style title) ++ rest))))
 
@@ -359,101 +361,3 @@ page_back title es rest few =
     ∙ append_assoc (index_opening title) (title_line title) (index_heads ++ (flat_map index_row es ++ tail))) in
     let titled : title_in whole ≡ Some (plain title) = ap title_in front ∙ title_back title (title_line title ++ (index_heads ++ (flat_map index_row es ++ tail))) in
     rw titled (rw (rows_back title es rest few) refl)
-
--- ---- entities
-
--- an escaped byte is read back
-byte_back : (byte : ℕ) (rest : Text) → unescaped_from 0 (plain_byte byte ++ rest) ≡ byte ∷ unescaped_from 0 rest
-byte_back byte rest = by (byte == 38) (byte == 60) (byte == 62) (byte == 34) (byte == 39) refl refl refl refl refl
-  where
-    by : (a b c d e : Bool) → (byte == 38) ≡ a → (byte == 60) ≡ b → (byte == 62) ≡ c → (byte == 34) ≡ d → (byte == 39) ≡ e
-        → unescaped_from 0 ((if a then codes "&amp;" else (if b then codes "&lt;" else (if c then codes "&gt;" else (if d then codes "&quot;" else (if e then codes "&#39;" else byte ∷ []))))) ++ rest)
-        ≡ byte ∷ unescaped_from 0 rest
-    by true b c d e i j k l m = ap (λ x. x ∷ unescaped_from 0 rest) (sym (eqb-true byte 38 i))
-    by false true c d e i j k l m = ap (λ x. x ∷ unescaped_from 0 rest) (sym (eqb-true byte 60 j))
-    by false false true d e i j k l m = ap (λ x. x ∷ unescaped_from 0 rest) (sym (eqb-true byte 62 k))
-    by false false false true e i j k l m = ap (λ x. x ∷ unescaped_from 0 rest) (sym (eqb-true byte 34 l))
-    by false false false false true i j k l m = ap (λ x. x ∷ unescaped_from 0 rest) (sym (eqb-true byte 39 m))
-    by false false false false false i j k l m = rw i refl
-
--- an escaped text is read back
-pub plain_back : (text : Text) → unescaped (plain text) ≡ text
-plain_back [] = refl
-plain_back (byte ∷ text) = byte_back byte (plain text) ∙ ap (λ t. byte ∷ t) (plain_back text)
-
--- ---- lemmas for the functions
-
-pub behind_none : (mark text : Text) → pointwise nat_eq (take (length mark) text) mark ≡ false → behind mark text ≡ None
-behind_none [] [] differ = absurd (false≢true (sym differ))
-behind_none [] (b ∷ text) differ = absurd (false≢true (sym differ))
-behind_none (m ∷ mark) [] differ = refl
-behind_none (m ∷ mark) (b ∷ text) differ = by (nat_eq b m) (m == b) differ refl refl (behind_none mark text)
-  where
-    by : (x y : Bool) → (x && pointwise nat_eq (take (length mark) text) mark) ≡ false → nat_eq b m ≡ x → (m == b) ≡ y
-        → (pointwise nat_eq (take (length mark) text) mark ≡ false → behind mark text ≡ None) → (if y then behind mark text else None) ≡ None
-    by x false differ e f rest = refl
-    by true true differ e f rest = rest differ
-    by false true differ e f rest = absurd (eqb-false b m e (sym (eqb-true m b f)))
-
-pub behind_some : (mark text : Text) → pointwise nat_eq (take (length mark) text) mark ≡ true → behind mark text ≡ Some (drop (length mark) text)
-behind_some [] [] same = refl
-behind_some [] (b ∷ text) same = refl
-behind_some (m ∷ mark) [] same = absurd (false≢true same)
-behind_some (m ∷ mark) (b ∷ text) same =
-    let part = and_parts (nat_eq b m) (pointwise nat_eq (take (length mark) text) mark) same in
-    let alike : (m == b) ≡ true = eq-eqb m b (sym (eqb-true b m part.0)) in
-    rw alike (behind_some mark text part.1)
-
--- bytes of an entity are passed over
-pub unescaped_pass : (passed byte : ℕ) (text : Text) → 0 < passed → unescaped_from passed (byte ∷ text) ≡ unescaped_from (passed - 1) text
-unescaped_pass zero byte text some = absurd (omega arith)
-unescaped_pass (suc k) byte text some =
-    let same : suc k - 1 ≡ k = omega arith in
-    ap (λ n. unescaped_from n text) (sym same)
-
--- the rest of a text from a place on begins with the byte there
-rest_at : (text : Text) (i : ℕ) → i < length text → (byte : ℕ) × (drop i text ≡ byte ∷ drop (i + 1) text)
-rest_at text i within = (get_or text i 0, at_drop_more (λ t. t) text i 0 within)
-
--- no row begins at a place
-pub rows_pass : (text : Text) (i : ℕ) → i < length text → begins (codes "</tbody>") (drop i text) ≡ false → behind (codes "<tr><th scope=\"row\">") (drop i text) ≡ None
-    → rows_in (drop i text) ≡ rows_in (drop (i + 1) text)
-rows_pass text i within on none =
-    let at = rest_at text i within in
-    ap rows_in at.1 ∙ by at.0 (subst (λ t. begins (codes "</tbody>") t ≡ false) at.1 on) (subst (λ t. behind (codes "<tr><th scope=\"row\">") t ≡ None) at.1 none)
-  where
-    by : (byte : ℕ) → begins (codes "</tbody>") (byte ∷ drop (i + 1) text) ≡ false → behind (codes "<tr><th scope=\"row\">") (byte ∷ drop (i + 1) text) ≡ None
-        → rows_in (byte ∷ drop (i + 1) text) ≡ rows_in (drop (i + 1) text)
-    by byte on none = rw (on, none) refl
-
--- a row begins at a place
-pub rows_more : (text after : Text) (i : ℕ) → i < length text → begins (codes "</tbody>") (drop i text) ≡ false → behind (codes "<tr><th scope=\"row\">") (drop i text) ≡ Some after
-    → rows_in (drop i text) ≡ with_row (row_at after) (rows_in (drop (i + 1) text))
-rows_more text after i within on some =
-    let at = rest_at text i within in
-    ap rows_in at.1 ∙ by at.0 (subst (λ t. begins (codes "</tbody>") t ≡ false) at.1 on) (subst (λ t. behind (codes "<tr><th scope=\"row\">") t ≡ Some after) at.1 some)
-  where
-    by : (byte : ℕ) → begins (codes "</tbody>") (byte ∷ drop (i + 1) text) ≡ false → behind (codes "<tr><th scope=\"row\">") (byte ∷ drop (i + 1) text) ≡ Some after
-        → rows_in (byte ∷ drop (i + 1) text) ≡ with_row (row_at after) (rows_in (drop (i + 1) text))
-    by byte on some = rw (on, some) refl
-
--- another row
-pub rows_pushed : (rows more : List RowEntry) (row : RowEntry) (others : Option (List RowEntry)) → more ≡ rows ++ row ∷ []
-    → option_map (λ rest. more ++ rest) others ≡ option_map (λ rest. rows ++ rest) (with_row (Some row) others)
-rows_pushed rows more row None is = refl
-rows_pushed rows more row (Some rest) is = ap Some (ap (λ t. t ++ rest) is ∙ append_assoc rows (row ∷ []) rest)
-
--- the mark doesn't begin at a place
-pub behind_pass : (mark text : Text) (i : ℕ) → i < length text → behind mark (drop i text) ≡ None → behind_first mark (drop i text) ≡ behind_first mark (drop (i + 1) text)
-behind_pass mark text i within none =
-    let at = rest_at text i within in
-    ap (behind_first mark) at.1 ∙ by at.0 (subst (λ t. behind mark t ≡ None) at.1 none)
-  where
-    by : (byte : ℕ) → behind mark (byte ∷ drop (i + 1) text) ≡ None → behind_first mark (byte ∷ drop (i + 1) text) ≡ behind_first mark (drop (i + 1) text)
-    by byte none = rw none refl
-
--- a byte at a place is passed over
-pub unescaped_pass_at : (passed i : ℕ) (text : Text) → i < length text → 0 < passed → unescaped_from passed (drop i text) ≡ unescaped_from (passed - 1) (drop (i + 1) text)
-unescaped_pass_at passed i text within some =
-    let at = rest_at text i within in
-    ap (unescaped_from passed) at.1 ∙ unescaped_pass passed at.0 (drop (i + 1) text) some

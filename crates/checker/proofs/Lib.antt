@@ -19,6 +19,7 @@ pub mod ReadBackLaws
 pub mod OwnBallots
 pub mod FolderLemmas
 pub mod IndexLaws
+pub mod IndexPlaces
 pub mod StageLaws
 pub mod OfficeFolders
 pub mod FoundLaws

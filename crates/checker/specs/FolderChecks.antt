@@ -28,13 +28,14 @@ abbrev pub IsFolderChecked : InputFiles → Text → FolderChecked → Type 0
 IsFolderChecked held path (Confirmed files) = IsConfirmedFolder held path files
 IsFolderChecked held path (Differs lines) = IsNoOfficeFolder held path
 
--- the outcome for the files that were read: they are confirmed only if they are the files of a published election, and each that an office published with the ballots is
+-- the files that were read are confirmed only if they are the files of a published election
 pub record IsFoundConfirmed (found : List FolderFile) (count : ℕ) : Type 0 where
   pub files : List FileEntry
   pub same : are_same found files ≡ true
   pub is : IsPublishedFolder files
   pub many : count ≡ length files
 
+-- the outcome for the files that were read: if they aren't confirmed, no office published them with the ballots
 abbrev pub IsFoundChecked : List FolderFile → FolderChecked → Type 0
 IsFoundChecked found (Confirmed files) = IsFoundConfirmed found files
 IsFoundChecked found (Differs lines) = (files : List FileEntry) → AreFound found files → ¬ (IsOfficeFolder files)

@@ -95,7 +95,8 @@ pub(crate) fn count_of(alloc: Global, election: &Election) -> Result<WardCount, 
     requires { CanBePrinted election.now.ward }
     ensures ok { IfOk result (λ count. IsWardCount election.now.ward.poll (shown election.now.ward) election.now.bundles.now election.now.lots.now count) }
     ensures err { IfErr result (λ problem. IsWardNotCounted election.now.ward.poll (shown election.now.ward) election.now.bundles.now election.now.lots.now problem) }
-    ensures only { (count : WardCount) → IsWardCount election.now.ward.poll (shown election.now.ward) election.now.bundles.now election.now.lots.now count → IfErr result (λ problem. problem ≡ Problem.Memory) }
+    ensures only { (count : WardCount) → IsWardCount election.now.ward.poll (shown election.now.ward) election.now.bundles.now election.now.lots.now count
+        → IfErr result (λ problem. problem ≡ Problem.Memory) }
 {
     match election.ward.poll {
         Some(_) => contested_count(alloc, election),

@@ -16,13 +16,15 @@ returns-in_default-clause-again c = λ files are office. absurd (office_index c.
 
 pub returns-in-Ok-None-clause-again : goal.returns-in-Ok-None-clause-again
 returns-in-Ok-None-clause-again c = λ files are office.
-    absurd (no_page (page_in c.in-Some.bytes.now) _ (sym (ap (option_map page_entry) c.in-Ok-None.field-0-is) ∙ c.in-Ok-None.ensures) (office_page c.args.found.now files are office c.in-Some.bytes.now (sym (ap option_copied c.in-Some.is) ∙ c.bytes_in.ensures)))
+    let page = office_page c.args.found.now files are office c.in-Some.bytes.now (sym (ap option_copied c.in-Some.is) ∙ c.bytes_in.ensures) in
+    absurd (no_page (page_in c.in-Some.bytes.now) _ (sym (ap (option_map page_entry) c.in-Ok-None.field-0-is) ∙ c.in-Ok-None.ensures) page)
 
 pub returns-in-Ok-clause-again : goal.returns-in-Ok-clause-again
 returns-in-Ok-clause-again c = λ files are office.
     let found = c.args.found.now in
     let page = office_page found files are office c.in-Some.bytes.now (sym (ap option_copied c.in-Some.is) ∙ c.bytes_in.ensures) in
-    c.in-Ok.ensures.again office.title office.wards files office.title_text (office_given found files are office) (one_page _ (page_entry c.in-Ok-Some.page) _ (sym (ap (option_map page_entry) c.in-Ok-Some.field-0-is) ∙ c.in-Ok-Some.ensures) page) office.so
+    c.in-Ok.ensures.again office.title office.wards files office.title_text (office_given found files are office)
+    (one_page _ (page_entry c.in-Ok-Some.page) _ (sym (ap (option_map page_entry) c.in-Ok-Some.field-0-is) ∙ c.in-Ok-Some.ensures) page) office.so
 
 pub returns-clause-again : goal.returns-clause-again
 returns-clause-again c = λ files are office.

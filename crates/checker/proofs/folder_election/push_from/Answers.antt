@@ -22,4 +22,5 @@ returns-clause-again c = λ entry has numbered declared.
     sym (ap option_copied c.in-Some.is) ∙ (c.bytes_in.ensures ∙ ap (λ n. bytes_named n found) (c.as_str.ensures.value ∙ c.in-Ok-Ok.ensures)) in
     let sheet_read : option_copied c.bytes_in-sheet.result ≡ bytes_named (ward_file c.args.ward (codes "-sheet.txt")) found =
     c.bytes_in-sheet.ensures ∙ ap (λ n. bytes_named n found) (c.as_str-2.ensures.value ∙ c.in-Ok-Ok.ensures') in
-    c.ward_fault.ensures (c.in-Err.ensures.again entry (from_texts found entry c.args.ward c.in-Some.ballots.now (option_copied c.bytes_in-sheet.result) c.args.is_declared has numbered read sheet_read declared))
+    c.ward_fault.ensures (c.in-Err.ensures.again entry
+    (from_texts found entry c.args.ward c.in-Some.ballots.now (option_copied c.bytes_in-sheet.result) c.args.is_declared has numbered read sheet_read declared))

@@ -3,7 +3,7 @@ use Rattle.std.proofs.Common.{◌≡◌, ◌∙◌, ap, sym, subst, None}
 use Rattle.std.specs.Prelude.{option_copied}
 use Rattle.std.proofs.lemmas.List.{take_rest}
 use Rattle.checker.specs.IndexPage.{behind}
-use Rattle.checker.proofs.IndexLaws.{behind_pass}
+use Rattle.checker.proofs.IndexPlaces.{behind_pass}
 use Rattle.checker.proofs.folder_index.behind_first.Goals as goal
 
 pub loop-i-preserved : goal.loop-i-preserved

@@ -3,7 +3,7 @@ use Rattle.std.proofs.Common.{◌≡◌, ◌∙◌, ◌++◌, ap, drop, map, sym
 use Rattle.std.specs.Prelude.{codes, option_copied, option_map}
 use Rattle.std.proofs.lemmas.List.{take_rest}
 use Rattle.checker.specs.IndexPage.{begins, behind, row_at, row_entry, rows_in, with_row}
-use Rattle.checker.proofs.IndexLaws.{rows_more, rows_pass, rows_pushed}
+use Rattle.checker.proofs.IndexPlaces.{rows_more, rows_pass, rows_pushed}
 use Rattle.checker.proofs.FolderLemmas.{map-push}
 use Rattle.checker.proofs.folder_index.rows_in.Goals as goal
 

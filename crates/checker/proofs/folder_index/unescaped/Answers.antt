@@ -1,6 +1,6 @@
 -- Proof that `unescaped` meets its contract.
 use Rattle.std.proofs.Common.{◌∙◌, ◌++◌, ap, sym}
-use Rattle.checker.proofs.IndexLaws.{unescaped_pass_at}
+use Rattle.checker.proofs.IndexPlaces.{unescaped_pass_at}
 use Rattle.checker.proofs.folder_index.unescaped.Goals as goal
 
 pub loop-i-preserved-then-passed-gt0 : goal.loop-i-preserved-then-passed-gt0

@@ -4,7 +4,7 @@ use Rattle.std.proofs.lemmas.Bool.{false≢true}
 use Rattle.std.proofs.lemmas.Str.{IsUtf8-from_is_utf8}
 use Rattle.std.specs.Str.{IsUtf8}
 use Rattle.checker.specs.IndexPage.{unescaped}
-use Rattle.checker.proofs.IndexLaws.{plain_back}
+use Rattle.checker.proofs.IndexPlaces.{plain_back}
 use Rattle.checker.proofs.folder_unsealed.shown_text.Goals as goal
 
 pub returns-in-Ok-from_utf8 : goal.returns-in-Ok-from_utf8
