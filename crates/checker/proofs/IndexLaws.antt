@@ -1,13 +1,11 @@
 -- The page of all wards, read back.
-use Rattle.std.proofs.Common.{◌≡◌, ◌∙◌, ℕ, zero, suc, ◌+◌, ◌-◌, ◌/◌, ◌%◌, ◌<◌, ◌≤◌, ◌&&◌, nat_eq, Bool, true, false, List, [], ◌∷◌, ◌++◌, length, map}
-use Rattle.std.proofs.Common.{refl, sym, ap, arith, append_assoc, Ok, Some, None}
-use Rattle.std.specs.Prelude.{◌==◌, codes, if◌then◌else◌, Option}
+use Rattle.std.proofs.Common.{◌≡◌, ◌∙◌, ℕ, zero, suc, ◌+◌, ◌/◌, ◌%◌, ◌<◌, ◌≤◌, Bool, true, false, List, [], ◌∷◌, ◌++◌, length, map}
+use Rattle.std.proofs.Common.{refl, sym, ap, arith, append_assoc, Ok, Some}
+use Rattle.std.specs.Prelude.{◌==◌, codes, if◌then◌else◌}
 use Rattle.std.specs.Fmt.{decimal, digit_glyph, digits, digits_onto}
 use Rattle.std.specs.List.{AllByRecursion, flat_map, list_all, range_with_len}
-use Rattle.std.specs.Cmp.Lexicographic.{pointwise}
 use Rattle.std.specs.Option.{option_map}
-use Rattle.std.proofs.lemmas.Bool.{eq-eqb, eqb-true, eqb-false, false≢true, le-leb, lt-ltb, ne_eqb}
-use Rattle.std.proofs.lemmas.List.{at_drop_more}
+use Rattle.std.proofs.lemmas.Bool.{eqb-false, le-leb, lt-ltb, ne_eqb}
 use Rattle.sheet.specs.Index.{ListedEntry, elected_name, empty_in, index_heads, index_opening, index_row, row_opening, standing_words}
 use Rattle.sheet.specs.Lines.{line, named, plain, plain_byte}
 use Rattle.sheet.specs.Look.{style}
@@ -15,7 +13,7 @@ use Rattle.sheet.specs.Page.{empty_seat, empty_seats, title_line, title_mark}
 use Rattle.sheet.specs.declared.index.WardStanding.{WardStanding}
 use Rattle.sheet.specs.declared.index.WardStanding.TheVariants.{Nominations, Keying, Sealed, Declared}
 use Rattle.checker.specs.FolderWards.{row_listed}
-use Rattle.checker.specs.IndexPage.{RowEntry, begins, behind, behind_comma, behind_first, field, page_in, from_first, row_at, row_with, rows_in, standing_at, title_in, until, with_row}
+use Rattle.checker.specs.IndexPage.{behind, behind_comma, field, page_in, from_first, row_at, row_with, rows_in, standing_at, title_in, until, with_row}
 use Rattle.checker.specs.Numbers.{number_in}
 use Rattle.checker.specs.Tokens.{Text}
 use Rattle.checker.proofs.LineLaws.{and_both, and_parts, figure_other, is_figure}

@@ -1,5 +1,5 @@
 -- The page of all wards as it is read, place by place, and texts without their entities.
-use Rattle.std.proofs.Common.{◌≡◌, ◌∙◌, ℕ, zero, suc, ◌+◌, ◌-◌, ◌<◌, ◌≤◌, ◌&&◌, nat_eq, Bool, true, false, List, [], ◌∷◌, ◌++◌, length, drop, get_or, take}
+use Rattle.std.proofs.Common.{◌≡◌, ◌∙◌, ℕ, zero, suc, ◌+◌, ◌-◌, ◌<◌, ◌&&◌, nat_eq, Bool, true, false, List, [], ◌∷◌, ◌++◌, length, drop, get_or, take}
 use Rattle.std.proofs.Common.{refl, sym, ap, subst, arith, append_assoc, Some, None}
 use Rattle.std.specs.Prelude.{◌==◌, codes, if◌then◌else◌, Option}
 use Rattle.std.specs.Cmp.Lexicographic.{pointwise}
@@ -7,7 +7,7 @@ use Rattle.std.specs.Option.{option_map}
 use Rattle.std.proofs.lemmas.Bool.{eq-eqb, eqb-true, eqb-false, false≢true}
 use Rattle.std.proofs.lemmas.List.{at_drop_more}
 use Rattle.sheet.specs.Lines.{plain, plain_byte}
-use Rattle.checker.specs.IndexPage.{RowEntry, begins, behind, behind_first, row_at, rows_at, rows_in, shown_by, unescaped, unescaped_from, with_row}
+use Rattle.checker.specs.IndexPage.{RowEntry, begins, behind, behind_first, row_at, rows_in, unescaped, unescaped_from, with_row}
 use Rattle.checker.specs.Tokens.{Text}
 use Rattle.checker.proofs.LineLaws.{and_parts}
 
