@@ -1,100 +1,23 @@
 -- The page of all wards, read back.
-use Rattle.std.proofs.Common.{◌≡◌, ◌∙◌, ℕ, zero, suc, ◌+◌, ◌/◌, ◌%◌, ◌<◌, ◌≤◌, Bool, true, false, List, [], ◌∷◌, ◌++◌, length, map}
+use Rattle.std.proofs.Common.{◌≡◌, ◌∙◌, ℕ, ◌≤◌, Bool, true, false, List, [], ◌∷◌, ◌++◌, length, map}
 use Rattle.std.proofs.Common.{refl, sym, ap, arith, append_assoc, Ok, Some}
 use Rattle.std.specs.Prelude.{◌==◌, codes, if◌then◌else◌}
-use Rattle.std.specs.Fmt.{decimal, digit_glyph, digits, digits_onto}
-use Rattle.std.specs.List.{AllByRecursion, flat_map, list_all, range_with_len}
+use Rattle.std.specs.Fmt.{decimal}
+use Rattle.std.specs.List.{AllByRecursion, flat_map, range_with_len}
 use Rattle.std.specs.Option.{option_map}
-use Rattle.std.proofs.lemmas.Bool.{eqb-false, le-leb, lt-ltb, ne_eqb}
+use Rattle.std.proofs.lemmas.Bool.{eqb-false, ne_eqb}
 use Rattle.sheet.specs.Index.{ListedEntry, elected_name, empty_in, index_heads, index_opening, index_row, row_opening, standing_words}
-use Rattle.sheet.specs.Lines.{line, named, plain, plain_byte}
+use Rattle.sheet.specs.Lines.{line, named, plain}
 use Rattle.sheet.specs.Look.{style}
 use Rattle.sheet.specs.Page.{empty_seat, empty_seats, title_line, title_mark}
 use Rattle.sheet.specs.declared.index.WardStanding.{WardStanding}
 use Rattle.sheet.specs.declared.index.WardStanding.TheVariants.{Nominations, Keying, Sealed, Declared}
 use Rattle.checker.specs.FolderWards.{row_listed}
-use Rattle.checker.specs.IndexPage.{behind, behind_comma, field, page_in, from_first, row_at, row_with, rows_in, standing_at, title_in, until, with_row}
+use Rattle.checker.specs.IndexPage.{behind_first, field, page_in, row_at, row_with, rows_in, standing_at, title_in, until, with_row}
 use Rattle.checker.specs.Numbers.{number_in}
 use Rattle.checker.specs.Tokens.{Text}
-use Rattle.checker.proofs.LineLaws.{and_both, and_parts, figure_other, is_figure}
+use Rattle.checker.proofs.LackLaws.{Lacks, field_back, number_lacks, plain_lacks, until_there}
 use Rattle.checker.proofs.NumberLaws.{number_back}
-
--- ---- bytes that a text lacks
-
--- the given byte isn't in a text
-abbrev pub Lacks : ℕ → Text → Type 0
-Lacks stop xs = AllByRecursion (λ x. (x == stop) ≡ false) xs
-
-lacks-append : (stop : ℕ) (xs ys : Text) → Lacks stop xs → Lacks stop ys → Lacks stop (xs ++ ys)
-lacks-append stop [] ys a b = b
-lacks-append stop (x ∷ xs) ys a b = (a.0, lacks-append stop xs ys a.1 b)
-
-until_there : (stop : ℕ) (xs rest : Text) → Lacks stop xs → (stop == stop) ≡ true → until stop (xs ++ stop ∷ rest) ≡ xs
-until_there stop [] rest none same = rw same refl
-until_there stop (x ∷ xs) rest none same = rw none.0 (ap (λ t. x ∷ t) (until_there stop xs rest none.1 same))
-
-from_there : (stop : ℕ) (xs rest : Text) → Lacks stop xs → (stop == stop) ≡ true → from_first stop (xs ++ stop ∷ rest) ≡ stop ∷ rest
-from_there stop [] rest none same = rw same refl
-from_there stop (x ∷ xs) rest none same = rw none.0 (from_there stop xs rest none.1 same)
-
-behind_itself : (mark rest : Text) → AllByRecursion (λ x. (x == x) ≡ true) mark → behind mark (mark ++ rest) ≡ Some rest
-behind_itself [] rest same = refl
-behind_itself (m ∷ mark) rest same = rw same.0 (behind_itself mark rest same.1)
-
--- a field is read back
-field_back : (stop : ℕ) (xs mark rest : Text) → Lacks stop xs → AllByRecursion (λ x. (x == x) ≡ true) (stop ∷ mark) → field stop (stop ∷ mark) (xs ++ stop ∷ (mark ++ rest)) ≡ Some (xs, rest)
-field_back stop xs mark rest none same =
-    rw (until_there stop xs (mark ++ rest) none same.0, from_there stop xs (mark ++ rest) none same.0)
-    (ap (option_map (λ after. (xs, after))) (behind_itself (stop ∷ mark) rest same))
-
--- ---- the text of a number, and escaped texts
-
-glyph_figure : (d : ℕ) → d < 10 → is_figure (digit_glyph false d) ≡ true
-glyph_figure d small =
-    let same : digit_glyph false d ≡ 48 + d = rw (lt-ltb d 10 small) refl in
-    rw same (and_both _ _ (le-leb 45 (48 + d) (omega arith)) (le-leb (48 + d) 57 (omega arith)))
-
-onto_figures : (k n : ℕ) (acc : Text) → list_all is_figure acc ≡ true → list_all is_figure (digits_onto k 10 false n acc) ≡ true
-onto_figures zero n acc all = all
-onto_figures (suc k) n acc all =
-    let more : list_all is_figure (digit_glyph false (n % 10) ∷ acc) ≡ true = and_both _ _ (glyph_figure (n % 10) (omega arith)) all in
-    by (n / 10 == 0) more (onto_figures k (n / 10) (digit_glyph false (n % 10) ∷ acc) more)
-  where
-    by : (b : Bool) → list_all is_figure (digit_glyph false (n % 10) ∷ acc) ≡ true → list_all is_figure (digits_onto k 10 false (n / 10) (digit_glyph false (n % 10) ∷ acc)) ≡ true
-        → list_all is_figure (if b then digit_glyph false (n % 10) ∷ acc else digits_onto k 10 false (n / 10) (digit_glyph false (n % 10) ∷ acc)) ≡ true
-    by true here later = here
-    by false here later = later
-
--- the text of each number has figures only
-number_figures : (n : ℕ) → list_all is_figure (decimal n) ≡ true
-unfolding digits
-number_figures n = onto_figures 64 n [] refl
-
-figures_lack : (stop : ℕ) → (45 ≤ stop → stop ≤ 57 → ⊥) → (xs : Text) → list_all is_figure xs ≡ true → Lacks stop xs
-figures_lack stop out [] all = tt
-figures_lack stop out (x ∷ xs) all =
-    let part = and_parts (is_figure x) (list_all is_figure xs) all in
-    (figure_other x stop part.0 out, figures_lack stop out xs part.1)
-
-number_lacks : (stop n : ℕ) → (45 ≤ stop → stop ≤ 57 → ⊥) → Lacks stop (decimal n)
-number_lacks stop n out = figures_lack stop out (decimal n) (number_figures n)
-
--- an escaped byte isn't markup
-byte_lacks : (byte : ℕ) → Lacks 60 (plain_byte byte)
-byte_lacks byte = by (byte == 38) (byte == 60) (byte == 62) (byte == 34) (byte == 39) refl
-  where
-    by : (a b c d e : Bool) → (byte == 60) ≡ b
-        → Lacks 60 (if a then codes "&amp;" else (if b then codes "&lt;" else (if c then codes "&gt;" else (if d then codes "&quot;" else (if e then codes "&#39;" else byte ∷ [])))))
-    by true b c d e is = (refl, (refl, (refl, (refl, (refl, tt)))))
-    by false true c d e is = (refl, (refl, (refl, (refl, tt))))
-    by false false true d e is = (refl, (refl, (refl, (refl, tt))))
-    by false false false true e is = (refl, (refl, (refl, (refl, (refl, (refl, tt))))))
-    by false false false false true is = (refl, (refl, (refl, (refl, (refl, tt)))))
-    by false false false false false is = (is, tt)
-
-plain_lacks : (text : Text) → Lacks 60 (plain text)
-plain_lacks [] = tt
-plain_lacks (byte ∷ text) = lacks-append 60 (plain_byte byte) (plain text) (byte_lacks byte) (plain_lacks text)
 
 -- ---- what is passed over before a row
 
@@ -282,14 +205,19 @@ mark_passes title = by (length title == 0)
 abbrev before_title : Text
 before_title = codes "<!DOCTYPE html>\n<html lang=\"en\">\n<head>\n<meta charset=\"utf-8\">\n<meta name=\"viewport\" content=\"width=device-width, initial-scale=1\">\n<title>Wards"
 
-abbrev after_title : Text → List Text
-after_title title =
-    codes "</title>\n<style>\n" ∷ style ∷
-    codes "</style>\n</head>\n<body class=\"wards\">\n<p class=\"running\" aria-hidden=\"true\"><span>Wards</span> <bdi>" ∷ plain title ∷ codes "</bdi></p>" ∷ []
+abbrev before_shown : Text
+before_shown = codes "</style>\n</head>\n<body class=\"wards\">\n<p class=\"running\" aria-hidden=\"true\"><span>Wards</span> <bdi>"
+
+-- the parts of the page's first line, from the style on, and from the title in its head on
+abbrev from_style : Text → List Text
+from_style title = style ∷ before_shown ∷ plain title ∷ codes "</bdi></p>" ∷ []
+
+abbrev from_title : Text → List Text
+from_title title = title_mark title ∷ plain title ∷ codes "</title>\n<style>\n" ∷ from_style title
 
 opening_passes : (title : Text) → Passes (index_opening title)
 opening_passes title =
-    passes_line (before_title ∷ title_mark title ∷ plain title ∷ after_title title)
+    passes_line (before_title ∷ from_title title)
     ((λ rest. refl), (mark_passes title, (plain_passes title, ((λ rest. refl), (style_passes, ((λ rest. refl), (plain_passes title, ((λ rest. refl), tt))))))))
 
 title_line_passes : (title : Text) → Passes (title_line title)
@@ -320,32 +248,74 @@ rows_back title es rest few =
     (passes-append (index_opening title) (title_line title) (opening_passes title) (title_line_passes title)) heads_pass (flat_map index_row es ++ tail)
     ∙ rows_read es rest few)
 
-title_found : (rest : Text) → title_in (before_title ++ rest) ≡ Some (until 60 (behind_comma rest))
-title_found rest = refl
+-- a text in which what precedes the title doesn't begin, whatever follows it
+abbrev Skips : Text → Type 0
+Skips xs = (rest : Text) → behind_first (codes "<span>Wards</span> <bdi>") (xs ++ rest) ≡ behind_first (codes "<span>Wards</span> <bdi>") rest
 
-opening_begins : (title rest : Text) → index_opening title ++ rest ≡ before_title ++ (title_mark title ++ (plain title ++ (line (after_title title) ++ rest)))
-opening_begins title rest =
-    line_split before_title (title_mark title ∷ plain title ∷ after_title title) rest
+skips_lacking : (xs : Text) → Lacks 60 xs → Skips xs
+skips_lacking [] none rest = refl
+skips_lacking (x ∷ xs) none rest =
+    let other : (60 == x) ≡ false = ne_eqb 60 x (λ e. eqb-false x 60 none.0 (sym e)) in
+    rw other (skips_lacking xs none.1 rest)
+
+style_skips : Skips style
+unfolding style
+style_skips rest = refl
+
+mark_skips : (title : Text) → Skips (title_mark title)
+mark_skips title = by (length title == 0)
+  where
+    by : (b : Bool) → Skips (if b then [] else codes ", ")
+    by true rest = refl
+    by false rest = refl
+
+front_skips : Skips before_title
+front_skips rest = refl
+
+head_skips : Skips (codes "</title>\n<style>\n")
+head_skips rest = refl
+
+title_follows : (rest : Text) → behind_first (codes "<span>Wards</span> <bdi>") (before_shown ++ rest) ≡ Some rest
+title_follows rest = refl
+
+-- the page from its title on
+abbrev shown_title : Text → Text → Text
+shown_title title rest = plain title ++ (codes "</bdi></p>" ++ (line [] ++ rest))
+
+style_split : (title rest : Text) → line (from_style title) ++ rest ≡ style ++ (before_shown ++ shown_title title rest)
+style_split title rest =
+    line_split style (before_shown ∷ plain title ∷ codes "</bdi></p>" ∷ []) rest
+    ∙ ap (λ t. style ++ t)
+    (line_split before_shown (plain title ∷ codes "</bdi></p>" ∷ []) rest
+    ∙ ap (λ t. before_shown ++ t)
+    (line_split (plain title) (codes "</bdi></p>" ∷ []) rest
+    ∙ ap (λ t. plain title ++ t) (line_split (codes "</bdi></p>") [] rest)))
+
+opening_split_at : (title rest : Text) → index_opening title ++ rest
+    ≡ before_title ++ (title_mark title ++ (plain title ++ (codes "</title>\n<style>\n" ++ (style ++ (before_shown ++ shown_title title rest)))))
+opening_split_at title rest =
+    line_split before_title (from_title title) rest
     ∙ ap (λ t. before_title ++ t)
-    (line_split (title_mark title) (plain title ∷ after_title title) rest
-    ∙ ap (λ t. title_mark title ++ t) (line_split (plain title) (after_title title) rest))
+    (line_split (title_mark title) (plain title ∷ codes "</title>\n<style>\n" ∷ from_style title) rest
+    ∙ ap (λ t. title_mark title ++ t)
+    (line_split (plain title) (codes "</title>\n<style>\n" ∷ from_style title) rest
+    ∙ ap (λ t. plain title ++ t)
+    (line_split (codes "</title>\n<style>\n") (from_style title) rest ∙ ap (λ t. codes "</title>\n<style>\n" ++ t) (style_split title rest))))
 
-title_until : (title rest : Text) → until 60 (behind_comma (title_mark title ++ (plain title ++ (codes "<" ++ rest)))) ≡ plain title
-title_until [] rest = refl
-title_until (b ∷ title) rest =
-    let some : (length (b ∷ title) == 0) ≡ false = ne_eqb (length (b ∷ title)) 0 (λ e. omega (arith, e)) in
-    rw some (until_there 60 (plain (b ∷ title)) rest (plain_lacks (b ∷ title)) refl)
-
-abbrev after_style : Text → List Text
-after_style title = style ∷ codes "</style>\n</head>\n<body class=\"wards\">\n<p class=\"running\" aria-hidden=\"true\"><span>Wards</span> <bdi>" ∷ plain title ∷ codes "</bdi></p>" ∷ []
+title_found : (title rest : Text) → behind_first (codes "<span>Wards</span> <bdi>") (index_opening title ++ rest) ≡ Some (shown_title title rest)
+title_found title rest =
+    let e = before_shown ++ shown_title title rest in
+    let d = style ++ e in
+    let c = codes "</title>\n<style>\n" ++ d in
+    let b = plain title ++ c in
+    ap (behind_first (codes "<span>Wards</span> <bdi>")) (opening_split_at title rest)
+    ∙ (front_skips (title_mark title ++ b) ∙ (mark_skips title b ∙ (skips_lacking (plain title) (plain_lacks title) c
+    ∙ (head_skips d ∙ (style_skips e ∙ title_follows (shown_title title rest))))))
 
 -- the title of a page is read back
 title_back : (title rest : Text) → title_in (index_opening title ++ rest) ≡ Some (plain title)
 title_back title rest =
-    let after : line (after_title title) ++ rest ≡ codes "<" ++ (codes "/title>\n<style>\n" ++ (line (after_style title) ++ rest)) =
-    line_split (codes "</title>\n<style>\n") (after_style title) rest in
-    ap title_in (opening_begins title rest) ∙ (title_found (title_mark title ++ (plain title ++ (line (after_title title) ++ rest)))
-    ∙ ap Some (ap (λ t. until 60 (behind_comma (title_mark title ++ (plain title ++ t)))) after ∙ title_until title (codes "/title>\n<style>\n" ++ (line (after_style title) ++ rest))))
+    ap (option_map (until 60)) (title_found title rest) ∙ ap Some (until_there 60 (plain title) (codes "/bdi></p>" ++ (line [] ++ rest)) (plain_lacks title) refl)
 
 -- a page is read back, whatever follows its rows
 pub page_back : (title : Text) (es : List ListedEntry) (rest : Text) → AllByRecursion (λ (e : ListedEntry). e.number ≤ 255) es

@@ -18,6 +18,7 @@ pub mod CommentLaws
 pub mod ReadBackLaws
 pub mod OwnBallots
 pub mod FolderLemmas
+pub mod LackLaws
 pub mod IndexLaws
 pub mod IndexPlaces
 pub mod StageLaws

@@ -1,6 +1,6 @@
 -- Reading the page of all wards: its title, and the row of each ward.
 use Rattle.std.specs.Prelude.{ℕ, zero, suc, ◌==◌, Bool, true, false, if◌then◌else◌, List, [], ◌∷◌, map, codes, Option, Some, None}
-use Rattle.std.specs.Option.{is_some, option_and_then, option_map, option_or, unwrap_or}
+use Rattle.std.specs.Option.{is_some, option_and_then, option_map, option_or}
 use Rattle.std.specs.Result.{result_ok}
 use Rattle.sheet.specs.declared.index.WardStanding.{WardStanding}
 use Rattle.sheet.specs.declared.index.WardStanding.TheVariants.{Nominations, Keying, Sealed, Declared}
@@ -94,13 +94,9 @@ rows_in (byte ∷ text) = rows_at (begins (codes "</tbody>") (byte ∷ text)) (b
 
 -- ---- the page
 
--- a text without the comma before it, if there is one
-abbrev pub behind_comma : Text → Text
-behind_comma text = unwrap_or (behind (codes ", ") text) text
-
 -- the title on a page, as it appears there
 abbrev pub title_in : Text → Option Text
-title_in page = option_map (λ after. until 60 (behind_comma after)) (behind_first (codes "<title>Wards") page)
+title_in page = option_map (until 60) (behind_first (codes "<span>Wards</span> <bdi>") page)
 
 -- a page: its title, as it appears there, and its rows
 pub record PageEntry : Type 0 where

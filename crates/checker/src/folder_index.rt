@@ -4,15 +4,15 @@
 //! that an office published is read as it was meant.
 
 ghost use Rattle.std.specs.Prelude.{◌≡◌, map, option_copied, option_map, IfOk};
-ghost use Rattle.checker.specs.IndexPage.{begins, behind, behind_comma, behind_first, entity, field, from_first, page_entry, page_in, row_at, row_entry};
+ghost use Rattle.checker.specs.IndexPage.{begins, behind, behind_first, entity, field, from_first, page_entry, page_in, row_at, row_entry};
 ghost use Rattle.checker.specs.IndexPage.{row_with, rows_in, shown_by, standing_at, title_in, unescaped, until};
 
 use crate::numbers::number_in;
 use sheet::WardStanding;
 use std::alloc::{AllocError, Global};
 
-/// What precedes the title on the page, with a comma after it unless the title is empty.
-const BEFORE_TITLE: &str = "<title>Wards";
+/// What precedes the title on the page.
+const BEFORE_TITLE: &str = "<span>Wards</span> <bdi>";
 
 /// What precedes the row of a ward.
 const BEFORE_ROW: &str = "<tr><th scope=\"row\">";
@@ -162,23 +162,13 @@ fn rows_in(alloc: Global, page: &[u8]) -> Result<Option<Vec<IndexRow<'_>>>, Allo
     Ok(Some(rows))
 }
 
-/// Returns a text without the comma before it, if there is one.
-fn behind_comma(text: &[u8]) -> &[u8]
-    ensures { result.now ≡ behind_comma text.now }
-{
-    match behind(", ", text) {
-        Some(after) => after,
-        None => text,
-    }
-}
-
 /// Returns the title on a page, as it appears there.
 fn title_in(page: &[u8]) -> Option<&[u8]>
     ensures { option_copied result ≡ title_in page.now }
 {
     match behind_first(BEFORE_TITLE, page) {
         Some(after) => {
-            let (title, _) = split_before(b'<', behind_comma(after));
+            let (title, _) = split_before(b'<', after);
             Some(title)
         }
         None => None,
