@@ -1,6 +1,6 @@
 -- A folder whose files were read and compared, and its wards one by one.
 use Rattle.std.proofs.Common.{◌≡◌, ◌∙◌, ℕ, ◌<◌, Bool, true, false, String, Global, List, [], ◌∷◌, ◌++◌, length, map, refl, sym, ap, subst, arith}
-use Rattle.std.specs.Prelude.{if◌then◌else◌, Ok, bytes_eq, string_bytes}
+use Rattle.std.specs.Prelude.{if◌then◌else◌, Ok, Option, Some, bytes_eq, string_bytes}
 use Rattle.std.specs.Option.{unwrap_or}
 use Rattle.std.specs.List.{All, Contains, list_all}
 use Rattle.std.proofs.lemmas.List.{get_or-map, length-map, take_all}
@@ -13,25 +13,26 @@ use Rattle.publication.specs.declared.files.PublishedFile.{PublishedFile}
 use Rattle.publication.specs.Folder.{published}
 use Rattle.count.specs.declared.stages.Stage.{Stage}
 use Rattle.sheet.specs.Index.{ListedEntry, elected_shown, index, listed}
+use Rattle.sheet.specs.Sheet.{sheet}
 use Rattle.sheet.specs.declared.index.WardStanding.{WardStanding}
 use Rattle.sheet.specs.declared.index.WardStanding.TheVariants.{Keying, Nominations}
 use Rattle.sheet.specs.declared.index.ListedWard.{ListedWard}
-use Rattle.checker.specs.FolderChecks.{IsFolderChecked, IsFoundChecked, IsFoundConfirmed}
+use Rattle.checker.specs.FolderChecks.{IsFoundConfirmed}
 use Rattle.checker.specs.FolderViews.{IsContent, IsFileIn, are_same, has_name, has_text, is_file, is_found, is_named, name_of}
-use Rattle.checker.specs.FolderWards.{AreWardsMade, IsElectionMade, IsReadingMade, IsUnsealedMade, IsWardMade, made_election, told_texts}
+use Rattle.checker.specs.FolderWards.{AreWardsMade, IsElectionMade, IsMadeAs, IsMadeFrom, IsReadingMade, IsUnsealedMade, IsWardMade, made_election, told_texts}
 use Rattle.checker.specs.Folders.{AreShown, FolderWard, HasExactly, IsConfirmedFolder, IsPublishedFolder, IsSealed, SealedEntry, UnsealedEntry}
-use Rattle.checker.specs.Folders.{ballots_of, is_sealed, is_unsealed, listed_of, sealed_in, texts_of}
+use Rattle.checker.specs.Folders.{ballots_of, is_sealed, is_unsealed, listed_as, listed_of, lots_of, passed_of, sealed_in, texts_as, texts_of, ward_of}
+use Rattle.checker.specs.Counts.{surpluses_in}
 use Rattle.checker.specs.InputFiles.{InputFiles, HoldsInside, HoldsNames}
 use Rattle.checker.specs.Reading.{ReaderEntry, read}
 use Rattle.checker.specs.Tokens.{Text}
-use Rattle.checker.specs.declared.folder_checking.FolderChecked.{FolderChecked}
-use Rattle.checker.specs.declared.folder_checking.FolderChecked.TheVariants.{Confirmed, Differs}
 use Rattle.checker.specs.declared.folder_election.FolderElection.{FolderElection}
 use Rattle.checker.specs.declared.folder_files.FileContent.{FileContent}
 use Rattle.checker.specs.declared.folder_files.FileContent.TheVariants.{Bytes, Unread}
 use Rattle.checker.specs.declared.folder_files.FolderFile.{FolderFile}
 use Rattle.checker.specs.declared.folder_texts.SealedTexts.{SealedTexts}
 use Rattle.checker.specs.declared.folder_wards.SealedWard.{SealedWard}
+use Rattle.checker.proofs.CountLemmas.{ward_once}
 use Rattle.checker.proofs.LineLaws.{and_parts}
 use Rattle.checker.proofs.NumberLaws.{pointwise_same}
 
@@ -96,16 +97,16 @@ folder_confirmed held path inside found count listed read all confirmed = record
 
 -- ---- the wards
 
-sealed_in-append : (wards more : List FolderWard) → sealed_in (wards ++ more) ≡ sealed_in wards ++ sealed_in more
+pub sealed_in-append : (wards more : List FolderWard) → sealed_in (wards ++ more) ≡ sealed_in wards ++ sealed_in more
 sealed_in-append [] more = refl
 sealed_in-append (is_sealed w ∷ wards) more = ap (λ ws. w ∷ ws) (sealed_in-append wards more)
 sealed_in-append (is_unsealed w ∷ wards) more = sealed_in-append wards more
 
-map-push : {X Y : Type 0} (f : X → Y) (xs : List X) (x : X) → map f (xs ++ x ∷ []) ≡ map f xs ++ f x ∷ []
+pub map-push : {X Y : Type 0} (f : X → Y) (xs : List X) (x : X) → map f (xs ++ x ∷ []) ≡ map f xs ++ f x ∷ []
 map-push f [] x = refl
 map-push f (y ∷ ys) x = ap (λ zs. f y ∷ zs) (map-push f ys x)
 
-append_none : {X : Type 0} (xs : List X) → xs ++ [] ≡ xs
+pub append_none : {X : Type 0} (xs : List X) → xs ++ [] ≡ xs
 append_none [] = refl
 append_none (x ∷ xs) = ap (λ ys. x ∷ ys) (append_none xs)
 
@@ -139,7 +140,7 @@ sealed_made title listed texts ward so made =
 
 -- ---- the files
 
-map_twice : {X Y Z : Type 0} (f : Y → Z) (g : X → Y) (xs : List X) → map f (map g xs) ≡ map (λ x. f (g x)) xs
+pub map_twice : {X Y Z : Type 0} (f : Y → Z) (g : X → Y) (xs : List X) → map f (map g xs) ≡ map (λ x. f (g x)) xs
 map_twice f g [] = refl
 map_twice f g (x ∷ xs) = ap (λ zs. f (g x) ∷ zs) (map_twice f g xs)
 
@@ -149,10 +150,12 @@ pub files_published : (title : Text) (listed : List ListedEntry) (texts : List W
 files_published title listed texts files made ordered are = record {
   title = title;
   wards = made.wards;
-  counted = made.so;
-  ordered = ap (ascend_from 0) (sym (map_twice (λ (ward : ListedEntry). ward.number) listed_of made.wards) ∙ ap (map (λ (ward : ListedEntry). ward.number)) (sym made.listed_are)) ∙ ordered;
-  are = are ∙ (ap (λ (ls : List ListedEntry). published (record { title = title; index = index title ls; wards = texts })) made.listed_are
-      ∙ ap (λ (ts : List WardEntry). published (record { title = title; index = index title (map listed_of made.wards); wards = ts })) made.texts_are);
+  so = record {
+    counted = made.so;
+    ordered = ap (ascend_from 0) (sym (map_twice (λ (ward : ListedEntry). ward.number) listed_of made.wards) ∙ ap (map (λ (ward : ListedEntry). ward.number)) (sym made.listed_are)) ∙ ordered;
+    are = are ∙ (ap (λ (ls : List ListedEntry). published (record { title = title; index = index title ls; wards = texts })) made.listed_are
+        ∙ ap (λ (ts : List WardEntry). published (record { title = title; index = index title (map listed_of made.wards); wards = ts })) made.texts_are);
+  };
 }
 
 -- ---- for the functions
@@ -178,14 +181,14 @@ sealed_pushed title old new old_texts new_texts ward more more_texts is made =
     (sealed_made title (map listed old) (map told_texts old_texts) is.ward is.so made))
 
 -- a ward that was counted from ballots is sealed, if these are the ballots that it prints
-pub ward_made : (title ballots : Text) (is_declared : Bool) (reading : ReaderEntry) (made : SealedWard) → read ballots ≡ Ok reading → IsReadingMade title reading is_declared made
-    → string_bytes made.texts.ballots ≡ ballots → IsWardMade title made
-ward_made title ballots is_declared reading made understood is same =
+pub ward_made : (title ballots : Text) (is_declared : Bool) (text : Option Text) (reading : ReaderEntry) (made : SealedWard) → read ballots ≡ Ok reading
+    → IsReadingMade title reading is_declared text made → string_bytes made.texts.ballots ≡ ballots → IsWardMade title made
+ward_made title ballots is_declared text reading made understood is same =
     let w : SealedEntry = record { reading = reading; count = is.count; stages = is.stages; is_declared = is_declared } in
     let own : string_bytes made.texts.ballots ≡ ballots_of w = ap (λ (t : WardEntry). unwrap_or t.ballots []) is.texts_are in
     record {
       ward = w;
-      so = record { understood = ap read (sym own ∙ same) ∙ understood; counted = is.counted; ends = is.ends; shows = is.shows };
+      so = record { understood = ap read (sym own ∙ same) ∙ understood; counted = is.counted; ends = is.ends; shows = is.shows.shows };
       texts_are = is.texts_are;
       listed_is = is.listed_is;
     }
@@ -218,8 +221,46 @@ unsealed_listed number seats name is_keying standing elected so none =
       listed_is = ap (λ s. listed_so s elected) so ∙ ap (λ es. listed_so (if is_keying then Keying else Nominations) es) none;
     }
 
--- the outcome for a folder, given that for its files
-pub folder_checked : (held : InputFiles) (path : Text) (inside : List Text) (found : List FolderFile) (checked : FolderChecked) → HoldsNames held path inside
-    → map name_of found ≡ inside → All (IsFileIn held path) found → IsFoundChecked found checked → IsFolderChecked held path checked
-folder_checked held path inside found (Confirmed count) listed read all so = folder_confirmed held path inside found count listed read all so
-folder_checked held path inside found (Differs lines) listed read all so = tt
+-- a ward that isn't sealed, as it is listed, given that it was read back
+pub unsealed_again : (number seats : ℕ) (name : Text) (is_keying : Bool) (standing : WardStanding) (elected : List (ℕ × String Global)) (ward : UnsealedEntry)
+    → standing ≡ (if is_keying then Keying else Nominations) → elected ≡ [] → number ≡ ward.number → name ≡ ward.name → seats ≡ ward.seats → is_keying ≡ ward.is_keying
+    → record { number = number; name = name; seats = seats; standing = standing; is_contested = false; elected = map elected_shown elected } ≡ listed_of (is_unsealed ward)
+unsealed_again number seats name is_keying standing elected ward so none numbered named seated keying =
+    let entry : ℕ → ℕ → Text → WardStanding → List (ℕ × String Global) → ListedEntry =
+    λ n k t s es. record { number = n; name = t; seats = k; standing = s; is_contested = false; elected = map elected_shown es } in
+    ap (λ n. entry n seats name standing elected) numbered ∙ (ap (λ t. entry ward.number seats t standing elected) named
+    ∙ (ap (λ k. entry ward.number k ward.name standing elected) seated ∙ (ap (λ s. entry ward.number ward.seats ward.name s elected) (so ∙ ap (λ k. if k then Keying else Nominations) keying)
+    ∙ ap (λ es. entry ward.number ward.seats ward.name (if ward.is_keying then Keying else Nominations) es) none)))
+
+-- ---- a ward that was made again from the ballots of an office
+
+read_once : (text : Text) (one other : ReaderEntry) → read text ≡ Ok one → read text ≡ Ok other → one ≡ other
+read_once text one other is also = cc
+
+made_again : (title : Text) (text : Option Text) (made : SealedWard) (ward : SealedEntry) → IsSealed ward → text ≡ Some (sheet (ward_of ward) ward.stages)
+    → IsReadingMade title ward.reading ward.is_declared text made → IsMadeAs title ward made
+made_again title text made ward so sheet_is is =
+    let w = ward_of ward in
+    let bundles = ward.reading.papers.bundles in
+    let lots = ward.reading.remarks.lots in
+    let count = ward_once w.poll w bundles lots is.count ward.count is.counted so.counted in
+    let stages : is.stages ≡ ward.stages = is.shows.alone ward.stages (subst (λ all. AreShown ward.is_declared all ward.stages) (sym count.stages) so.shows) sheet_is in
+    record {
+      texts_are = is.texts_are
+          ∙ (ap (λ ss. texts_as title w bundles (lots_of ward) ss (surpluses_in w.poll w bundles lots (length ss)) is.count.elected ward.is_declared) stages
+          ∙ ap (λ elected. texts_as title w bundles (lots_of ward) ward.stages (passed_of ward) elected ward.is_declared) count.elected);
+      listed_is = is.listed_is ∙ ap (λ elected. listed_as w elected ward.is_declared) count.elected;
+    }
+
+-- the ward of an office is made again from its ballots and its sheet
+pub made_from : (title ballots : Text) (is_declared : Bool) (text : Option Text) (reading : ReaderEntry) (made : SealedWard) (ward : SealedEntry) → read ballots ≡ Ok reading
+    → IsReadingMade title reading is_declared text made → IsMadeFrom ward ballots is_declared text → IsMadeAs title ward made
+made_from title ballots is_declared text reading made ward understood is from =
+    let same : reading ≡ ward.reading = read_once ballots reading ward.reading understood (ap read from.ballots_are ∙ from.so.understood) in
+    let own = subst (λ d. IsReadingMade title ward.reading d text made) from.declared_is (subst (λ r. IsReadingMade title r is_declared text made) same is) in
+    made_again title text made ward from.so from.sheet_is own
+
+-- and its ballots are written as they were
+pub made_ballots : (title ballots : Text) (is_declared : Bool) (text : Option Text) (made : SealedWard) (ward : SealedEntry) → IsMadeAs title ward made
+    → IsMadeFrom ward ballots is_declared text → string_bytes made.texts.ballots ≡ ballots
+made_ballots title ballots is_declared text made ward told from = ap (λ (t : WardEntry). unwrap_or t.ballots []) told.texts_are ∙ sym from.ballots_are

@@ -18,4 +18,11 @@ pub mod CommentLaws
 pub mod ReadBackLaws
 pub mod OwnBallots
 pub mod FolderLemmas
+pub mod LackLaws
+pub mod IndexLaws
+pub mod IndexPlaces
+pub mod StageLaws
+pub mod OfficeFolders
+pub mod FoundLaws
+pub mod PublishedLaws
 pub mod WorkedBallots

@@ -1,6 +1,6 @@
 -- The files of a folder as the checker reads them, and their comparison with the files that it makes.
-use Rattle.std.specs.Prelude.{Bool, false, ◌&&◌, List, bytes_eq, string_bytes}
-use Rattle.std.specs.List.{list_all, list_any}
+use Rattle.std.specs.Prelude.{◌≡◌, Bool, true, false, ◌&&◌, if◌then◌else◌, List, [], ◌∷◌, Option, Some, None, bytes_eq, string_bytes}
+use Rattle.std.specs.List.{All, list_all, list_any}
 use Rattle.publication.specs.Files.{FileEntry}
 use Rattle.checker.specs.InputFiles.{InputFiles, HoldsInside, WithholdsInside}
 use Rattle.checker.specs.Tokens.{Text}
@@ -44,3 +44,18 @@ is_named files found = list_any (has_name (name_of found)) files
 -- whether a folder has exactly the given files
 abbrev pub are_same : List FolderFile → List FileEntry → Bool
 are_same found files = list_all (is_found found) files && list_all (is_named files) found
+
+-- the bytes of a file that was read; otherwise other bytes
+abbrev pub bytes_or : FileContent → Option Text → Option Text
+bytes_or (Bytes bytes) others = Some bytes.items
+bytes_or (Unread why) others = others
+
+-- the bytes of the first file with the given name that was read
+abbrev pub bytes_named : Text → List FolderFile → Option Text
+bytes_named name [] = None
+bytes_named name (file ∷ files) = if bytes_eq (name_of file) name then bytes_or file.content (bytes_named name files) else bytes_named name files
+
+-- a folder has exactly the given files, and each is found by its name
+pub record AreFound (found : List FolderFile) (files : List FileEntry) : Type 0 where
+  pub same : are_same found files ≡ true
+  pub each : All (λ (file : FileEntry). bytes_named file.name found ≡ Some file.text) files

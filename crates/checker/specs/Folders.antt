@@ -1,6 +1,7 @@
 -- A folder in which an election was published, checked by nothing but its own files: what has to be in it.
-use Rattle.std.specs.Prelude.{◌≡◌, ℕ, nat_eq, nat_lt, Bool, true, false, if◌then◌else◌, List, [], ◌∷◌, length, map, take, Some, None, Ok, ⊤}
+use Rattle.std.specs.Prelude.{◌≡◌, ◌≤◌, ℕ, nat_eq, nat_lt, Bool, true, false, if◌then◌else◌, List, [], ◌∷◌, length, map, take, Some, None, Ok, ⊤}
 use Rattle.std.specs.List.{All, Contains, filter, list_any}
+use Rattle.std.specs.Str.{is_utf8}
 use Rattle.count.specs.Bundles.{Bundle}
 use Rattle.count.specs.declared.count_to_end.CountEnd.{CountEnd}
 use Rattle.count.specs.declared.count_to_end.CountEnd.TheVariants as end
@@ -136,14 +137,37 @@ election_of title wards = record { title = title; index = index title (map liste
 
 -- ---- the folder
 
--- The files are those of a published election: there are a title, and wards in the order of their numbers, of which each sealed one is counted from its ballots. All files are those
--- that are published of these wards under this title.
-pub record IsPublishedFolder (files : List FileEntry) : Type 0 where
-  pub title : Text
-  pub wards : List FolderWard
+-- The files are those that are published of the given wards under the given title. The wards are in the order of their numbers, and each sealed one is counted from its
+-- ballots.
+pub record ArePublished (title : Text) (wards : List FolderWard) (files : List FileEntry) : Type 0 where
   pub counted : All IsSealed (sealed_in wards)
   pub ordered : ascend_from 0 (map (λ ward. (listed_of ward).number) wards) ≡ true
   pub are : files ≡ published (election_of title wards)
+
+-- the files are those of a published election
+pub record IsPublishedFolder (files : List FileEntry) : Type 0 where
+  pub title : Text
+  pub wards : List FolderWard
+  pub so : ArePublished title wards files
+
+-- the wards that aren't sealed
+abbrev pub unsealed_in : List FolderWard → List UnsealedEntry
+unsealed_in [] = []
+unsealed_in (is_sealed w ∷ wards) = unsealed_in wards
+unsealed_in (is_unsealed w ∷ wards) = w ∷ unsealed_in wards
+
+-- a ward that isn't sealed, as it may occur in an office: its name is UTF-8, and the number of its seats fits in one byte
+pub record IsUnsealedText (w : UnsealedEntry) : Type 0 where
+  pub name : is_utf8 w.name ≡ true
+  pub seats : w.seats ≤ 255
+
+-- the files are those of a published election, as it may occur in an office: its title is UTF-8, and so are the names of the wards that aren't sealed
+pub record IsOfficeFolder (files : List FileEntry) : Type 0 where
+  pub title : Text
+  pub wards : List FolderWard
+  pub so : ArePublished title wards files
+  pub title_text : is_utf8 title ≡ true
+  pub unsealed : All IsUnsealedText (unsealed_in wards)
 
 -- the folder at the given path has exactly the given files: each is there with its bytes, and nothing else is there
 pub record HasExactly (held : InputFiles) (path : Text) (files : List FileEntry) : Type 0 where

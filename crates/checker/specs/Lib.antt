@@ -30,6 +30,7 @@ pub mod Pages
 pub mod Outputs
 pub mod InputFiles
 pub mod Folders
+pub mod IndexPage
 pub mod FolderViews
 pub mod FolderWards
 pub mod FolderChecks

@@ -5,6 +5,7 @@ ghost use Rattle.sheet.specs.Entries.{shown};
 ghost use Rattle.sheet.specs.Wards.{CanBePrinted};
 ghost use Rattle.checker.specs.Counts.{IsContestedCount, IsCountBy, IsNotCounted, IsWardCount, IsWardNotCounted, undrawn_at};
 ghost use Rattle.checker.specs.Wards.{contest_in};
+ghost use Rattle.checker.specs.declared.counting.WardCount.{WardCount};
 
 use crate::lots::undrawn_by;
 use crate::problem::Problem;
@@ -45,6 +46,7 @@ fn counted_out<B: CountBook>(
     requires { B.history book.old ≡ [] }
     ensures ok { IfOk result (λ count. IsCountBy (B.contest book.old) lots.now count) }
     ensures err { IfErr result (λ problem. IsNotCounted (B.contest book.old) lots.now problem) }
+    ensures only { (count : WardCount) → IsCountBy (B.contest book.old) lots.now count → IfErr result (λ problem. problem ≡ Problem.Memory) }
 {
     let Ok(dues) = dues_to(alloc, book, lots, 255) else {
         return Err(Problem::Memory);
@@ -72,6 +74,7 @@ fn contested_count(alloc: Global, election: &Election) -> Result<WardCount, Prob
     requires { CanBePrinted election.now.ward }
     ensures ok { IfOk result (λ count. IsContestedCount (shown election.now.ward) election.now.bundles.now election.now.lots.now count) }
     ensures err { IfErr result (λ problem. IsNotCounted (contest_in (shown election.now.ward) election.now.bundles.now) election.now.lots.now problem) }
+    ensures only { (count : WardCount) → IsContestedCount (shown election.now.ward) election.now.bundles.now election.now.lots.now count → IfErr result (λ problem. problem ≡ Problem.Memory) }
 {
     let numbers = numbers_of(&election.ward);
     let seats = election.ward.seats;
@@ -86,11 +89,14 @@ fn contested_count(alloc: Global, election: &Election) -> Result<WardCount, Prob
 
 /// Counts a ward with its lots. An uncontested ward has no stages, and all its candidates are elected.
 ///
-/// The problem is that there is no contest, that a recorded lot isn't drawn, or that an allocation failed.
+/// The problem is that there is no contest, that a recorded lot isn't drawn, or that an allocation failed. If the ward has a count, it
+/// is a failed allocation.
 pub(crate) fn count_of(alloc: Global, election: &Election) -> Result<WardCount, Problem>
     requires { CanBePrinted election.now.ward }
     ensures ok { IfOk result (λ count. IsWardCount election.now.ward.poll (shown election.now.ward) election.now.bundles.now election.now.lots.now count) }
     ensures err { IfErr result (λ problem. IsWardNotCounted election.now.ward.poll (shown election.now.ward) election.now.bundles.now election.now.lots.now problem) }
+    ensures only { (count : WardCount) → IsWardCount election.now.ward.poll (shown election.now.ward) election.now.bundles.now election.now.lots.now count
+        → IfErr result (λ problem. problem ≡ Problem.Memory) }
 {
     match election.ward.poll {
         Some(_) => contested_count(alloc, election),

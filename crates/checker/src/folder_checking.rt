@@ -31,6 +31,7 @@ fn checked_files(alloc: Global, found: &[FolderFile]) -> Result<FolderChecked, A
             return Ok(FolderChecked::Confirmed { files: files.len() });
         }
         Ok(files) => difference_lines(alloc, found, &files)?,
+        Err(MakeFault::Memory) => return Err(AllocError),
         Err(fault) => unmade_lines(alloc, found, &fault)?,
     };
     Ok(FolderChecked::Differs { lines })
@@ -38,7 +39,8 @@ fn checked_files(alloc: Global, found: &[FolderFile]) -> Result<FolderChecked, A
 
 /// Checks the folder at the given path: whether it has exactly the files that are published of an election, with the ballots. The
 /// title and the wards that aren't sealed are read from its `index.html`. Each sealed ward is counted from its ballots, with the lots
-/// recorded in them. All files are made again from that, and compared with those in the folder byte for byte.
+/// recorded in them. All files are made again from that, and compared with those in the folder byte for byte. So each folder that an
+/// office published with the ballots is confirmed, and no other.
 ///
 /// The error is that the names in the folder can't be read, or a failed allocation.
 pub fn check_folder<F: InputFiles>(

@@ -1,19 +1,29 @@
 //! The election published in a folder, made again from its ballots.
 
-ghost use Rattle.std.specs.Prelude.{◌≡◌, if◌then◌else◌, map, IfOk, OnOk};
-ghost use Rattle.publication.specs.Election.{ascend_from, ward_entry};
-ghost use Rattle.publication.specs.Files.{file_entry};
+ghost use Rattle.std.specs.Prelude.{◌≡◌, ◌++◌, ◌∷◌, [], map, true, codes, option_copied, string_bytes, IfOk, IfErr, List, OnOk};
+ghost use Rattle.std.specs.List.{All};
+ghost use Rattle.std.specs.Str.{is_utf8};
+ghost use Rattle.publication.specs.Election.{are_in_order, ascend_from, ward_entry};
+ghost use Rattle.publication.specs.Files.{FileEntry, file_entry};
 ghost use Rattle.publication.specs.Folder.{published};
+ghost use Rattle.publication.specs.Pages.{are_pages};
+ghost use Rattle.publication.specs.Parts.{ward_file};
 ghost use Rattle.sheet.specs.Index.{listed};
-ghost use Rattle.checker.specs.Folders.{IsPublishedFolder};
-ghost use Rattle.checker.specs.FolderWards.{IsElectionMade, IsUnsealedMade, IsWardMade, made_election, told_texts};
+ghost use Rattle.checker.specs.Folders.{ArePublished, FolderWard, IsOfficeFolder, IsPublishedFolder, IsUnsealedText, SealedEntry, UnsealedEntry};
+ghost use Rattle.checker.specs.Folders.{is_sealed, is_unsealed, listed_of, ward_of};
+ghost use Rattle.checker.specs.FolderViews.{AreFound};
+ghost use Rattle.checker.specs.FolderWards.{AreMadeAs, HasTexts, IsAppended, IsElectionMade, IsGiven, IsMadeAs, IsMadeFrom, IsWardMade, OkUnless};
+ghost use Rattle.checker.specs.FolderWards.{made_election, page_of, row_listed, told_texts};
+ghost use Rattle.checker.specs.IndexPage.{page_entry, row_entry};
 ghost use Rattle.checker.specs.Tokens.{Text};
 
 use crate::folder_files::{FolderFile, bytes_in};
-use crate::folder_index::{IndexPage, IndexRow, index_page, without_entities};
+use crate::folder_index::{IndexPage, IndexRow, index_page};
 use crate::folder_texts::{SealedTexts, published_texts};
+use crate::folder_unsealed::{shown_text, unsealed_ward};
 use crate::folder_wards::{Progress, SealedWard, WardFault, sealed_ward};
 use crate::problem::Problem;
+use itoa::Buffer;
 use publication::{PublishFault, PublishedElection, PublishedFile, WardTexts, published_files};
 use sheet::{ListedWard, WardStanding, index_text};
 use std::alloc::{AllocError, Global};
@@ -42,34 +52,30 @@ pub(crate) enum MakeFault {
     Ward { ward: u8, fault: WardFault },
 }
 
+/// Returns the name of a ward's file with the given ending.
+fn ward_file(alloc: Global, ward: u8, ending: &str) -> Result<String, AllocError>
+    ensures { IfOk result (λ name. string_bytes name ≡ ward_file ward ending.now) }
+{
+    let mut name = String::from_str(alloc, "ward-")?;
+    name.push_str(Buffer::new().format(ward))?;
+    name.push_str(ending)?;
+    Ok(name)
+}
+
 /// Returns the name of the file with a ward's ballots.
-pub(crate) fn ballots_name(alloc: Global, ward: u8) -> Result<String, AllocError> {
-    format!(in alloc; "ward-{ward}-ballots.txt")
+pub(crate) fn ballots_name(alloc: Global, ward: u8) -> Result<String, AllocError>
+    ensures { IfOk result (λ name. string_bytes name ≡ ward_file ward (codes "-ballots.txt")) }
+{
+    ward_file(alloc, ward, "-ballots.txt")
 }
 
-/// Returns the status of a ward that isn't sealed.
-fn unsealed_standing(is_keying: bool) -> WardStanding
-    ensures { result ≡ (if is_keying then WardStanding.Keying else WardStanding.Nominations) }
+/// Appends a ward that isn't sealed, as it is listed.
+fn push_listed(election: &mut FolderElection, ward: ListedWard) -> Result<(), AllocError>
+    ensures listed { OnOk result (election.new.listed.items ≡ election.old.listed.items ++ ward ∷ []) }
+    ensures sealed { OnOk result (election.new.sealed ≡ election.old.sealed) }
 {
-    if is_keying {
-        WardStanding::Keying
-    } else {
-        WardStanding::Nominations
-    }
-}
-
-/// Returns a ward that isn't sealed, as the page of all wards lists it.
-fn unsealed_ward(alloc: Global, row: &IndexRow, is_keying: bool) -> Result<ListedWard, AllocError>
-    ensures { IfOk result (λ ward. IsUnsealedMade (listed ward)) }
-{
-    Ok(ListedWard {
-        number: u32::from(row.number),
-        name: without_entities(alloc, row.name)?,
-        seats: u32::from(row.seats),
-        standing: unsealed_standing(is_keying),
-        is_contested: false,
-        elected: Vec::new(alloc),
-    })
+    election.listed.push(ward)?;
+    Ok(())
 }
 
 /// Appends a ward that isn't sealed.
@@ -78,17 +84,22 @@ fn push_unsealed(
     election: &mut FolderElection,
     row: &IndexRow,
     is_keying: bool,
-) -> Result<(), AllocError>
-    ensures { OnOk result ((title : Text) → IsElectionMade title election.old → IsElectionMade title election.new) }
+) -> Result<(), MakeFault>
+    ensures made { OnOk result ((title : Text) → IsElectionMade title election.old → IsElectionMade title election.new) }
+    ensures again { (title : Text) (ward : UnsealedEntry) → IsUnsealedText ward → row_entry row.now ≡ row_listed (listed_of (is_unsealed ward)) → is_keying ≡ ward.is_keying
+        → OkUnless MakeFault.Memory result (λ done. IsAppended title election.old election.new (is_unsealed ward)) }
 {
     let ward = unsealed_ward(alloc, row, is_keying)?;
-    election.listed.push(ward)?;
-    Ok(())
+    match push_listed(election, ward) {
+        Ok(()) => Ok(()),
+        Err(_) => Err(MakeFault::Memory),
+    }
 }
 
 /// Appends a sealed ward that was made again.
 fn push_made(election: &mut FolderElection, made: SealedWard) -> Result<(), AllocError>
-    ensures { OnOk result ((title : Text) → IsWardMade title made → IsElectionMade title election.old → IsElectionMade title election.new) }
+    ensures made { OnOk result ((title : Text) → IsWardMade title made → IsElectionMade title election.old → IsElectionMade title election.new) }
+    ensures again { OnOk result ((title : Text) (ward : SealedEntry) → IsMadeAs title ward made → IsAppended title election.old election.new (is_sealed ward)) }
 {
     let SealedWard { texts, listed } = made;
     election.listed.push(listed)?;
@@ -104,7 +115,9 @@ fn push_sealed(
     ballots: &[u8],
     progress: Progress,
 ) -> Result<(), WardFault>
-    ensures { OnOk result (IsElectionMade title.now election.old → IsElectionMade title.now election.new) }
+    ensures made { OnOk result (IsElectionMade title.now election.old → IsElectionMade title.now election.new) }
+    ensures again { (ward : SealedEntry) → IsMadeFrom ward ballots.now progress.entry.is_declared (option_copied progress.entry.sheet)
+        → OkUnless (WardFault.Ballots Problem.Memory) result (λ done. IsAppended title.now election.old election.new (is_sealed ward)) }
 {
     let made = sealed_ward(alloc, title, ballots, progress)?;
     match push_made(election, made) {
@@ -113,19 +126,13 @@ fn push_sealed(
     }
 }
 
-/// Returns how many stages the stage sheet of a ward shows. It is confirmed later, since the sheet is made again.
-fn stages_done(alloc: Global, found: &[FolderFile], ward: u8) -> Result<usize, AllocError> {
-    let name = format!(in alloc; "ward-{ward}-sheet.txt")?;
-    let Some(bytes) = bytes_in(found, name.as_str()) else {
-        return Ok(usize::MAX);
-    };
-    match str::from_utf8(bytes) {
-        Ok(text) => Ok(
-            text.lines()
-                .filter(|line| line.starts_with("Stage "))
-                .count(),
-        ),
-        Err(_) => Ok(usize::MAX),
+/// Returns the reason why an election can't be made again, given the reason for a ward.
+fn ward_fault(ward: u8, fault: WardFault) -> MakeFault
+    ensures { fault ≡ WardFault.Ballots Problem.Memory → result ≡ MakeFault.Memory }
+{
+    match fault {
+        WardFault::Ballots(Problem::Memory) => MakeFault::Memory,
+        _ => MakeFault::Ward { ward, fault },
     }
 }
 
@@ -138,22 +145,24 @@ fn push_from(
     ward: u8,
     is_declared: bool,
 ) -> Result<(), MakeFault>
-    ensures { OnOk result (IsElectionMade title.now election.old → IsElectionMade title.now election.new) }
+    ensures made { OnOk result (IsElectionMade title.now election.old → IsElectionMade title.now election.new) }
+    ensures again { (entry : SealedEntry) → HasTexts found.now entry → ward ≡ (ward_of entry).number → is_declared ≡ entry.is_declared
+        → OkUnless MakeFault.Memory result (λ done. IsAppended title.now election.old election.new (is_sealed entry)) }
 {
-    let Ok(name) = ballots_name(alloc, ward) else {
+    let (Ok(ballots), Ok(sheet)) = (
+        ballots_name(alloc, ward),
+        ward_file(alloc, ward, "-sheet.txt"),
+    ) else {
         return Err(MakeFault::Memory);
     };
-    let Some(ballots) = bytes_in(found, name.as_str()) else {
+    let Some(ballots) = bytes_in(found, ballots.as_str()) else {
         return Err(MakeFault::WardMissing { ward });
     };
-    let Ok(done) = stages_done(alloc, found, ward) else {
-        return Err(MakeFault::Memory);
-    };
-    let progress = Progress { is_declared, done };
+    let sheet = bytes_in(found, sheet.as_str());
+    let progress = Progress { is_declared, sheet };
     match push_sealed(alloc, title, election, ballots, progress) {
         Ok(()) => Ok(()),
-        Err(WardFault::Ballots(Problem::Memory)) => Err(MakeFault::Memory),
-        Err(fault) => Err(MakeFault::Ward { ward, fault }),
+        Err(fault) => Err(ward_fault(ward, fault)),
     }
 }
 
@@ -165,21 +174,15 @@ fn push_row(
     election: &mut FolderElection,
     row: &IndexRow,
 ) -> Result<(), MakeFault>
-    ensures { OnOk result (IsElectionMade title.now election.old → IsElectionMade title.now election.new) }
+    ensures made { OnOk result (IsElectionMade title.now election.old → IsElectionMade title.now election.new) }
+    ensures again { (ward : FolderWard) → IsGiven found.now ward → row_entry row.now ≡ row_listed (listed_of ward)
+        → OkUnless MakeFault.Memory result (λ done. IsAppended title.now election.old election.new ward) }
 {
-    let is_keying = match row.standing {
-        WardStanding::Nominations => false,
-        WardStanding::Keying => true,
-        WardStanding::Sealed => {
-            return push_from(alloc, title, found, election, row.number, false);
-        }
-        WardStanding::Declared => {
-            return push_from(alloc, title, found, election, row.number, true);
-        }
-    };
-    match push_unsealed(alloc, election, row, is_keying) {
-        Ok(()) => Ok(()),
-        Err(AllocError) => Err(MakeFault::Memory),
+    match row.standing {
+        WardStanding::Nominations => push_unsealed(alloc, election, row, false),
+        WardStanding::Keying => push_unsealed(alloc, election, row, true),
+        WardStanding::Sealed => push_from(alloc, title, found, election, row.number, false),
+        WardStanding::Declared => push_from(alloc, title, found, election, row.number, true),
     }
 }
 
@@ -190,14 +193,19 @@ fn election_of(
     found: &[FolderFile],
     rows: &[IndexRow],
 ) -> Result<FolderElection, MakeFault>
-    ensures { IfOk result (IsElectionMade title.now) }
+    ensures made { IfOk result (IsElectionMade title.now) }
+    ensures again { (wards : List FolderWard) → All (IsGiven found.now) wards → map row_entry rows.now ≡ map (λ ward. row_listed (listed_of ward)) wards
+        → OkUnless MakeFault.Memory result (AreMadeAs title.now wards) }
 {
     let mut election = FolderElection {
         listed: Vec::new(alloc),
         sealed: Vec::new(alloc),
     };
     for row in rows {
-        push_row(alloc, title, found, &mut election, row)?;
+        match push_row(alloc, title, found, &mut election, row) {
+            Ok(()) => {}
+            Err(fault) => return Err(fault),
+        }
     }
     Ok(election)
 }
@@ -228,7 +236,9 @@ fn texts_of<'a>(alloc: Global, wards: &'a [SealedTexts]) -> Result<Vec<WardTexts
 }
 
 /// Returns the reason why files weren't made.
-fn unmade(fault: PublishFault) -> MakeFault {
+fn unmade(fault: PublishFault) -> MakeFault
+    ensures { fault ≡ PublishFault.Memory → result ≡ MakeFault.Memory }
+{
     match fault {
         PublishFault::Memory => MakeFault::Memory,
         PublishFault::NotAPage | PublishFault::WardOrder => MakeFault::NotIndex,
@@ -241,7 +251,9 @@ fn files_of(
     title: &str,
     election: &FolderElection,
 ) -> Result<Vec<PublishedFile>, MakeFault>
-    ensures { IfOk result (λ files. map file_entry files.items ≡ published (made_election title.now election.now)) }
+    ensures made { IfOk result (λ files. map file_entry files.items ≡ published (made_election title.now election.now)) }
+    ensures again { are_pages (made_election title.now election.now) ≡ true → are_in_order (map told_texts election.now.sealed.items) ≡ true
+        → IfErr result (λ fault. fault ≡ MakeFault.Memory) }
 {
     let Ok(index) = index_text(alloc, title, &election.listed) else {
         return Err(MakeFault::Memory);
@@ -260,29 +272,17 @@ fn files_of(
     }
 }
 
-/// Returns whether there are sealed wards, but no ballots in the folder.
-fn lacks_ballots(rows: &[IndexRow], found: &[FolderFile]) -> bool {
-    let has_sealed = rows.iter().any(|row| matches!(
-        row.standing,
-        WardStanding::Sealed | WardStanding::Declared
-    ));
-    has_sealed
-        && !found
-            .iter()
-            .any(|file| file.name.as_str().ends_with("-ballots.txt"))
-}
-
 /// Returns the files of the election that a page of all wards and the ballots in a folder describe.
 fn files_for(
     alloc: Global,
     found: &[FolderFile],
     page: &IndexPage,
 ) -> Result<Vec<PublishedFile>, MakeFault>
-    ensures { IfOk result (λ files. IsPublishedFolder (map file_entry files.items)) }
+    ensures made { IfOk result (λ files. IsPublishedFolder (map file_entry files.items)) }
+    ensures again { (title : Text) (wards : List FolderWard) (files : List FileEntry) → is_utf8 title ≡ true → All (IsGiven found.now) wards
+        → page_entry page.now ≡ page_of title wards → ArePublished title wards files → OkUnless MakeFault.Memory result (λ made. map file_entry made.items ≡ files) }
 {
-    let Ok(title) = without_entities(alloc, page.title) else {
-        return Err(MakeFault::Memory);
-    };
+    let title = shown_text(alloc, page.title)?;
     let text = title.as_str();
     let election = election_of(alloc, text, found, &page.rows)?;
     if !are_in_order(&election.listed) {
@@ -294,23 +294,41 @@ fn files_for(
     }
 }
 
+/// Returns whether there are ballots in a folder.
+fn has_ballots(found: &[FolderFile]) -> bool {
+    found
+        .iter()
+        .any(|file| file.name.as_str().ends_with("-ballots.txt"))
+}
+
+/// Returns the reason why an election can't be made again, which for a ward without ballots may be that there are none at all.
+fn told_fault(found: &[FolderFile], fault: MakeFault) -> MakeFault
+    ensures { fault ≡ MakeFault.Memory → result ≡ MakeFault.Memory }
+{
+    match fault {
+        MakeFault::WardMissing { .. } if !has_ballots(found) => MakeFault::NoBallots,
+        _ => fault,
+    }
+}
+
 /// Returns the files of the election published in a folder, made again from its ballots.
 pub(crate) fn made_files(
     alloc: Global,
     found: &[FolderFile],
 ) -> Result<Vec<PublishedFile>, MakeFault>
-    ensures { IfOk result (λ files. IsPublishedFolder (map file_entry files.items)) }
+    ensures made { IfOk result (λ files. IsPublishedFolder (map file_entry files.items)) }
+    ensures again { (files : List FileEntry) → AreFound found.now files → IsOfficeFolder files → OkUnless MakeFault.Memory result (λ made. map file_entry made.items ≡ files) }
 {
     let Some(bytes) = bytes_in(found, "index.html") else {
         return Err(MakeFault::NoIndex);
     };
-    let Ok(text) = str::from_utf8(bytes) else {
-        return Err(MakeFault::NotIndex);
+    let page = match index_page(alloc, bytes) {
+        Ok(Some(page)) => page,
+        Ok(None) => return Err(MakeFault::NotIndex),
+        Err(AllocError) => return Err(MakeFault::Memory),
     };
-    match index_page(alloc, text) {
-        Ok(Some(page)) if lacks_ballots(&page.rows, found) => Err(MakeFault::NoBallots),
-        Ok(Some(page)) => files_for(alloc, found, &page),
-        Ok(None) => Err(MakeFault::NotIndex),
-        Err(AllocError) => Err(MakeFault::Memory),
+    match files_for(alloc, found, &page) {
+        Ok(files) => Ok(files),
+        Err(fault) => Err(told_fault(found, fault)),
     }
 }

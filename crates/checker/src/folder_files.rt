@@ -1,8 +1,8 @@
 //! The files of a folder, as they are read.
 
-ghost use Rattle.std.specs.Prelude.{◌≡◌, map, string_bytes, IfOk};
+ghost use Rattle.std.specs.Prelude.{◌≡◌, map, option_copied, string_bytes, IfOk};
 ghost use Rattle.std.specs.List.{All};
-ghost use Rattle.checker.specs.FolderViews.{IsContent, IsFileIn, name_of};
+ghost use Rattle.checker.specs.FolderViews.{IsContent, IsFileIn, bytes_named, bytes_or, name_of};
 
 use crate::input_files::{InputFiles, NotRead};
 use std::alloc::{AllocError, Global};
@@ -66,13 +66,25 @@ pub(crate) fn files_in<F: InputFiles>(
     Ok(found)
 }
 
+/// Returns the bytes of a file, if it was read.
+fn bytes_of(content: &FileContent) -> Option<&[u8]>
+    ensures { option_copied result ≡ bytes_or content.now None }
+{
+    match content {
+        FileContent::Bytes(bytes) => Some(bytes.as_slice()),
+        FileContent::Unread(_) => None,
+    }
+}
+
 /// Returns the bytes of the file with the given name; `None` if there is none, or if it can't be read.
-pub(crate) fn bytes_in<'a>(found: &'a [FolderFile], name: &str) -> Option<&'a [u8]> {
+pub(crate) fn bytes_in<'a>(found: &'a [FolderFile], name: &str) -> Option<&'a [u8]>
+    ensures { option_copied result ≡ bytes_named name.now found.now }
+{
     for file in found {
         if file.name.as_str() != name {
             continue;
         }
-        if let FileContent::Bytes(bytes) = &file.content {
+        if let Some(bytes) = bytes_of(&file.content) {
             return Some(bytes);
         }
     }

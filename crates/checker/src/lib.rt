@@ -54,6 +54,7 @@ mod folder_files;
 mod folder_index;
 mod folder_texts;
 mod folder_unmade;
+mod folder_unsealed;
 mod folder_wards;
 // the program's request, and what it prints
 mod arguments;

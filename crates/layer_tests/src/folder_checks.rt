@@ -8,8 +8,8 @@ use checker::{
 };
 use publication::{PublishedElection, PublishedFile, WardTexts, published_files};
 use sheet::{
-    ListedWard, Poll, Ward, WardStanding, can_be_printed, index_text, page_text, results_text,
-    sheet_text, spreadsheet_text,
+    CountShown, ListedWard, Poll, Ward, WardStanding, can_be_printed, index_text, page_text,
+    results_text, sheet_text, spreadsheet_text,
 };
 use std::alloc::{AllocError, Global};
 use std::process::Abort;
@@ -188,8 +188,13 @@ fn uncounted_texts(alloc: Global) -> Result<OwnTexts, Fail> {
     if !can_be_printed(&ward) {
         return Err(Fail::from("the ward isn't printed"));
     }
+    let shown = CountShown {
+        stages: &[],
+        lots: &[],
+        surpluses: &[],
+    };
     Ok(OwnTexts {
-        page: page_text(alloc, &ward, TITLE, false, &[], &[])?,
+        page: page_text(alloc, &ward, TITLE, false, &shown)?,
         sheet: sheet_text(alloc, &ward, &[])?,
         declaration: String::new(alloc),
         table: spreadsheet_text(alloc, &ward, &[])?,

@@ -2,7 +2,7 @@
 use Rattle.std.proofs.Common.{◌∙◌, ap, map, subst}
 use Rattle.std.specs.Prelude.{string_bytes}
 use Rattle.checker.specs.FolderChecks.{IsFoundChecked}
-use Rattle.checker.proofs.FolderLemmas.{folder_checked}
+use Rattle.checker.proofs.FoundLaws.{folder_checked}
 use Rattle.checker.proofs.folder_checking.check_folder.Goals as goal
 
 pub returns-in-Ok-checked_files-clause-ok : goal.returns-in-Ok-checked_files-clause-ok
