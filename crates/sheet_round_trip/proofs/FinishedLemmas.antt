@@ -1,34 +1,30 @@
 -- A finished count has the same result if it is held on the bundles of its papers, and is their only count.
-use Rattle.std.proofs.Common.{◌≡◌, ℕ, ◌+◌, ◌-◌, ◌≤◌, nat_le, true, not, get_or, List, [], ◌∷◌, length, map, reverse, Option, Some, None, refl, sym, ap, subst, ◌∙◌, arith}
-use Rattle.std.specs.List.{find, list_all, range_with_len}
-use Rattle.std.specs.Option.{option_map}
-use Rattle.std.proofs.lemmas.Bool.{and_parts, cond-true}
+use Rattle.std.proofs.Common.{◌≡◌, ℕ, ◌+◌, true, List, length, map, reverse, Option, Some, None, refl, sym, ap, subst, ◌∙◌}
+use Rattle.std.proofs.lemmas.Bool.{cond-true}
 use Rattle.std.proofs.lemmas.List.{reverse-reverse}
-use Rattle.std.proofs.lemmas.List.FromFn.{get_or-map-range_with_len}
 use Rattle.std.proofs.lemmas.List.Sorted.{IsPermutation-refl}
 use Rattle.count.specs.Advance.{end_after, end_of}
 use Rattle.count.specs.Bundles.{bundled}
-use Rattle.count.specs.Law.Contest.{Contest, History, IsContest}
-use Rattle.count.specs.Law.Count.{due_by, due_or, stages_to}
+use Rattle.count.specs.Law.Contest.{Contest, History}
+use Rattle.count.specs.Law.Count.{due_by, due_or}
 use Rattle.count.specs.Law.Due.{due_after, lot_for, next_action}
 use Rattle.count.specs.Law.Elected.{elected_after}
-use Rattle.count.specs.Law.Right.{IsCount, IsRight, IsWholeCount}
+use Rattle.count.specs.Law.Right.{IsCount, IsWholeCount}
 use Rattle.count.specs.declared.count_to_end.CountEnd.{CountEnd}
 use Rattle.count.specs.declared.count_to_end.CountEnd.TheVariants as end
 use Rattle.count.specs.declared.stages.Action.{Action}
 use Rattle.count.specs.declared.stages.Due.{Due}
 use Rattle.count.specs.declared.stages.Due.TheVariants.{Act, Lot, Finished}
 use Rattle.count.specs.declared.stages.Stage.{Stage}
-use Rattle.count.proofs.Law.CountLemmas.{stages_right}
 use Rattle.count.proofs.Law.RightLemmas.{whole_count}
 use Rattle.sheet.specs.declared.ward.Poll.{Poll}
-use Rattle.checker.specs.Checks.{EndsAt, dues_of, is_drawn_by, is_lot, undrawn}
-use Rattle.checker.specs.BallotsRoundTrip.{AreSmall}
+use Rattle.checker.specs.Checks.{EndsAt}
 use Rattle.checker.specs.Wards.{contest_in, numbers_of}
 use Rattle.register.specs.Marks.{columns_of}
-use Rattle.register.specs.Elections.{ElectionEntry, contest_of, due_of, elected_of, has_count, is_drawn_for, is_finished, is_tied, stages_of}
-use Rattle.register.proofs.BundledLemmas.{due-alike, fair-alike, other_order, stages-alike}
+use Rattle.register.specs.Elections.{ElectionEntry, contest_of, due_of, elected_of, has_count, is_finished, stages_of}
+use Rattle.register.proofs.BundledLemmas.{other_order}
 use Rattle.office.specs.Sheets.{candidate_shown, shown_with}
+use Rattle.sheet_round_trip.proofs.ContestedLemmas.{right_so_far, same_due, same_stages}
 
 -- if nothing is due given the lots, nothing is due
 nothing_due : (contest : Contest) (lots : List (ℕ × ℕ)) (stages : History) → is_finished (due_by contest lots stages) ≡ true → due_after contest stages ≡ Finished
@@ -45,38 +41,23 @@ ends_finished : (lot : Option ℕ) → end_of lot Finished ≡ Some end.Finished
 ends_finished None = refl
 ends_finished (Some c) = refl
 
--- if a candidate is tied, a lot is due
-tied_is_lot : (due : Due) (c : ℕ) → is_tied due c ≡ true → is_lot due ≡ true
-tied_is_lot (Act action) c is = absurd (cc)
-tied_is_lot (Lot stage kind tied) c is = refl
-tied_is_lot Finished c is = absurd (cc)
-
 -- a contested election whose count is finished, with the bundles of its papers
 module _ (e : ElectionEntry) (poll : Option Poll) (own : map (λ (candidate : ℕ × List ℕ). candidate.0) (map candidate_shown e.candidates) ≡ columns_of e.candidates)
     (contested : has_count e ≡ true) (finished : is_finished (due_of e) ≡ true) where
   abbrev on_bundles : Contest
   on_bundles = contest_in (shown_with poll e) (bundled e.ballots.papers)
 
-  same_stages : (k : ℕ) → stages_to on_bundles e.lots k ≡ stages_to (contest_of e) e.lots k
-  same_stages k = stages-alike e (numbers_of (shown_with poll e)) e.ward.seats (bundled e.ballots.papers) own refl refl e.lots refl on_bundles refl k
-
-  same_due : (k : ℕ) → due_after on_bundles (stages_to on_bundles e.lots k) ≡ due_after (contest_of e) (stages_to (contest_of e) e.lots k)
-  same_due k = due-alike e (numbers_of (shown_with poll e)) e.ward.seats (bundled e.ballots.papers) own refl refl e.lots refl on_bundles refl k
-
-  right : IsRight on_bundles e.lots (stages_of e)
-  right = subst (IsRight on_bundles e.lots) (same_stages e.ward.done) (stages_right on_bundles e.lots e.ward.done)
-
   due_none : due_after on_bundles (stages_of e) ≡ Finished
   due_none =
-      ap (due_after on_bundles) (sym (same_stages e.ward.done))
-      ∙ same_due e.ward.done
+      ap (due_after on_bundles) (sym (same_stages e poll own e.ward.done))
+      ∙ same_due e poll own e.ward.done
       ∙ nothing_due (contest_of e) e.lots (stages_of e) (sym (ap is_finished (cond-true (has_count e) _ _ contested)) ∙ finished)
 
   ended : end_after on_bundles e.lots (stages_of e) ≡ Some end.Finished
   ended = ap (end_of (lot_for e.lots (length (stages_of e) + 1))) due_none ∙ ends_finished (lot_for e.lots (length (stages_of e) + 1))
 
   whole : IsWholeCount on_bundles e.lots (stages_of e)
-  whole = whole_count on_bundles e.lots (stages_of e) end.Finished right ended
+  whole = whole_count on_bundles e.lots (stages_of e) end.Finished (right_so_far e poll own) ended
 
   -- its count ends with the completed stages
   pub counted : EndsAt on_bundles e.lots (reverse (stages_of e)) end.Finished
@@ -104,26 +85,3 @@ module _ (e : ElectionEntry) (poll : Option Poll) (own : map (λ (candidate : �
       ap (elected_after on_bundles) (reverse-reverse (stages_of e))
       ∙ ap (λ (c : Contest). elected_after c (stages_of e)) (other_order e (numbers_of (shown_with poll e)) e.ward.seats (bundled e.ballots.papers) own refl refl e.lots refl on_bundles refl)
       ∙ sym (cond-true (has_count e) _ _ contested)
-
-  -- each recorded lot is drawn
-  drawn : (lot : ℕ × ℕ) → is_drawn_for e lot ≡ true → lot.0 ≤ 255 → is_drawn_by (dues_of on_bundles e.lots) lot.0 ≡ true
-  unfolding dues_of
-  drawn lot was small =
-      let at : ℕ → Due = λ k. due_after on_bundles (stages_to on_bundles e.lots k) in
-      let found : get_or (map at (range_with_len 0 256)) (lot.0 - 1) Finished ≡ at (lot.0 - 1) = get_or-map-range_with_len at 0 256 (lot.0 - 1)
-      (lot.0 - 1) Finished (omega (arith, small)) (omega arith) in
-      let tied = (and_parts (nat_le lot.0 (e.ward.done + 1)) _ was).1 in
-      ap is_lot (found ∙ same_due (lot.0 - 1)) ∙ tied_is_lot (due_after (contest_of e) (stages_to (contest_of e) e.lots (lot.0 - 1))) lot.1 tied
-
-  none_undrawn : (ls : List (ℕ × ℕ)) → list_all (is_drawn_for e) ls ≡ true → AreSmall ls → find (λ (lot : ℕ × ℕ). not (is_drawn_by (dues_of on_bundles e.lots) lot.0)) ls ≡ None
-  none_undrawn [] all small = refl
-  none_undrawn (lot ∷ ls) all small =
-      let parts = and_parts (is_drawn_for e lot) (list_all (is_drawn_for e) ls) all in
-      rw (drawn lot parts.0 small.0.0) (none_undrawn ls parts.1 small.1)
-
-  pub all_drawn : list_all (is_drawn_for e) e.lots ≡ true → AreSmall e.lots → undrawn on_bundles e.lots ≡ None
-  all_drawn all small = ap (option_map (λ (lot : ℕ × ℕ). lot.0)) (none_undrawn e.lots all small)
-
-  -- and a count can be held on the bundles
-  pub fair_on_bundles : IsContest (contest_of e) → IsContest on_bundles
-  fair_on_bundles fair = fair-alike e (numbers_of (shown_with poll e)) e.ward.seats (bundled e.ballots.papers) own refl refl fair

@@ -25,7 +25,8 @@ use Rattle.register.specs.Marks.{columns_of}
 use Rattle.register.specs.Elections.{ElectionEntry, contest_of, due_of, has_count, is_drawn_for, is_finished, stages_of}
 use Rattle.office.specs.Sheets.{candidate_shown, shown_with}
 use Rattle.sheet_round_trip.specs.OwnTexts.{IsConfirmed}
-use Rattle.sheet_round_trip.proofs.FinishedLemmas.{all_drawn, counted, end_alone, fair_on_bundles, stages_alone}
+use Rattle.sheet_round_trip.proofs.ContestedLemmas.{all_drawn, fair_on_bundles}
+use Rattle.sheet_round_trip.proofs.FinishedLemmas.{counted, end_alone, stages_alone}
 
 -- ---- the sheet and the declaration
 
@@ -120,10 +121,10 @@ module _
 
     counted_told : (text : List ℕ) (answer : Checked) → IsCompared (reverse (stages_of e)) text answer → IsCountedCheck ward (bundled e.ballots.papers) e.lots text answer
     counted_told text answer is = record {
-      contest = fair_on_bundles e (Some poll) own contested finished fair;
+      contest = fair_on_bundles e (Some poll) own fair;
       stages = reverse (stages_of e);
       counted = counted e (Some poll) own contested finished;
-      drawn = all_drawn e (Some poll) own contested finished drawn small;
+      drawn = all_drawn e (Some poll) own drawn small;
       compared = is;
     }
 
@@ -137,7 +138,7 @@ module _
 
     counted_unhindered : (why : Problem) → IsCountProblem contest e.lots why → why ≡ problem.Memory
     counted_unhindered (problem.Line line flaw) is = absurd is
-    counted_unhindered problem.NoContest is = absurd (is (fair_on_bundles e (Some poll) own contested finished fair))
+    counted_unhindered problem.NoContest is = absurd (is (fair_on_bundles e (Some poll) own fair))
     counted_unhindered (problem.LotNeeded stage among) is =
         let ends : Some (end.LotNeeded stage among) ≡ Some end.Finished = end_alone e (Some poll) own contested finished is.0 (end.LotNeeded stage among) is.1 in
         absurd (cc)
@@ -145,7 +146,7 @@ module _
         let ends : Some (end.LotNotAmong stage) ≡ Some end.Finished = end_alone e (Some poll) own contested finished is.0 (end.LotNotAmong stage) is.1 in
         absurd (cc)
     counted_unhindered (problem.LotNotNeeded stage) is =
-        let none : Some stage ≡ None = sym is ∙ all_drawn e (Some poll) own contested finished drawn small in
+        let none : Some stage ≡ None = sym is ∙ all_drawn e (Some poll) own drawn small in
         absurd (cc)
     counted_unhindered problem.Memory is = refl
 
