@@ -11,4 +11,5 @@ pub mod LawLemmas
 pub mod CountedLemmas
 pub mod SealedLemmas
 pub mod UnsealedLemmas
+pub mod FolderLemmas
 pub mod WorkedTexts

@@ -49,13 +49,13 @@ module _ (e : ElectionEntry) (sealed : is_counted e.ward.phase ≡ true) (right 
   is_ended = not (is_declared e.ward.phase) || is_finished (due_after (contest_of e) (stages_of e))
 
   -- if the ward is contested, every lot has been drawn, and once the ward is declared nothing is due
-  drawn_and_ended : has_count e ≡ true → (list_all (is_drawn_for e) e.lots ≡ true) × (is_ended ≡ true)
+  pub drawn_and_ended : has_count e ≡ true → (list_all (is_drawn_for e) e.lots ≡ true) × (is_ended ≡ true)
   drawn_and_ended contested =
       let so_far : is_right_so_far e ≡ true = sym (cond-true (is_in_count e) _ _ (rw sealed contested)) ∙ right in
       and_parts (list_all (is_drawn_for e) e.lots) is_ended (and_parts (length (stages_of e) == e.ward.done) _ so_far).1
 
   -- if the ward is uncontested, it has no stages
-  no_stages : has_count e ≡ false → stages_of e ≡ []
+  pub no_stages : has_count e ≡ false → stages_of e ≡ []
   unfolding stages_to
   no_stages uncontested =
       let uncounted : is_uncounted e ≡ true = sym (cond-false (is_in_count e) _ _ (rw sealed uncontested)) ∙ right in
