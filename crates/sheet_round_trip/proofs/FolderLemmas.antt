@@ -20,11 +20,11 @@ use Rattle.register.specs.Offices.{OfficeState, WardEntry, candidates_of, ward_a
 use Rattle.register.specs.Elections.{ElectionEntry, election_of, is_counted, is_declared}
 use Rattle.register.specs.Ranges.{is_name, is_seat_number, is_ward_number}
 use Rattle.register.specs.StateConditions.{IsState, is_ward}
-use Rattle.store.specs.Overviews.{ward_view_of, ward_views}
+use Rattle.store.specs.Overviews.{ward_view_of}
 use Rattle.store.proofs.DoneLemmas.{wards_there}
 use Rattle.office.specs.Index.{index_of, listed_shown}
 use Rattle.office.specs.Sheets.{IsTextual, bundles_shown, election_shown, lots_shown}
-use Rattle.published_office.specs.OfficeFolder.{election_published, published_of, sealed_wards, texts_of as office_texts, wards_published}
+use Rattle.published_office.specs.OfficeFolder.{election_published, published_of, texts_of as office_texts, wards_published}
 use Rattle.sheet_round_trip.proofs.BallotLemmas.{can_be_read_back, own_lots_small, own_numbers}
 use Rattle.sheet_round_trip.proofs.CountedLemmas.{count_of}
 use Rattle.sheet_round_trip.proofs.SealedLemmas.{IsMadeOf, made_of}
@@ -107,7 +107,7 @@ with_unsealed title s w ws unsealed text later =
 -- given the laws of reading back, of the texts, and of a ward's columns, at a state
 module _
     (read_back : AreReadBack) (textual : (s : OfficeState) (w : WardEntry) → IsState s → ward_at s w.number ≡ Some w → IsTextual (election_of s w))
-    (columns : (s : OfficeState) (ward : ℕ) → IsState s → columns_of (candidates_of s ward) ≡ map (λ c. c.number) (candidates_of s ward)) (title : List ℕ) (s : OfficeState) (is : IsState s)
+    (columns : (s : OfficeState) (ward : ℕ) → IsState s → columns_of (candidates_of s ward) ≡ map (λ c. c.number) (candidates_of s ward)) (s : OfficeState) (title : List ℕ) (is : IsState s)
   where
     can : (w : WardEntry) → ward_at s w.number ≡ Some w → CanBeReadBack (election_shown (election_of s w)) (bundles_shown (election_of s w)) (lots_shown (election_of s w))
     can w there = can_be_read_back s w is there (columns s w.number is) (textual s w is there)

@@ -12,4 +12,5 @@ pub mod CountedLemmas
 pub mod SealedLemmas
 pub mod UnsealedLemmas
 pub mod FolderLemmas
+pub mod ConfirmedLemmas
 pub mod WorkedTexts

@@ -1,6 +1,6 @@
 -- A sealed ward of a state, as the checker makes it from the ward's own ballots: it is counted, and it has the texts and the row that the office publishes of it.
-use Rattle.std.proofs.Common.{◌≡◌, ℕ, nat_eq, nat_lt, Bool, true, false, not, cond, List, [], ◌∷◌, length, map, filter, reverse, Option, Some, None, Ok, refl, sym, ap, subst, ◌∙◌}
-use Rattle.std.specs.List.{list_all, list_any}
+use Rattle.std.proofs.Common.{◌≡◌, ℕ, nat_eq, nat_lt, Bool, true, false, cond, List, [], ◌∷◌, length, map, filter, reverse, Option, Some, None, Ok, refl, sym, ap, subst, ◌∙◌}
+use Rattle.std.specs.List.{list_any}
 use Rattle.std.proofs.lemmas.List.{length-map}
 use Rattle.count.specs.Bundles.{Bundle, bundled}
 use Rattle.count.specs.declared.stages.Stage.{Stage}
@@ -18,7 +18,7 @@ use Rattle.checker.specs.BallotsRoundTrip.{IsReadBack}
 use Rattle.checker.specs.Counts.{IsWardCount, lots_in, surpluses_in}
 use Rattle.checker.specs.Folders.{IsSealed, SealedEntry, is_sealed, listed_as, listed_of, texts_as, texts_of}
 use Rattle.checker.specs.Reading.{ReaderEntry, read}
-use Rattle.checker.specs.Wards.{numbers_of, ward_told}
+use Rattle.checker.specs.Wards.{ward_told}
 use Rattle.register.specs.declared.phase.Phase.{Phase}
 use Rattle.register.specs.declared.phase.Phase.TheVariants.{Nominations, Keying, Sealed, Declared}
 use Rattle.register.specs.Marks.{columns_of}

@@ -1,5 +1,5 @@
 -- A ward of a state that isn't sealed has the same row on the page of all wards, whether or not its candidates are known.
-use Rattle.std.proofs.Common.{◌≡◌, ℕ, Bool, true, false, cond, List, [], map, filter, refl, ap, ◌∙◌}
+use Rattle.std.proofs.Common.{◌≡◌, ℕ, Bool, true, false, List, [], map, filter, refl, ap, ◌∙◌}
 use Rattle.std.proofs.lemmas.Bool.{cond-false}
 use Rattle.sheet.specs.Index.{ListedEntry, index_row}
 use Rattle.checker.specs.Folders.{UnsealedEntry, is_unsealed, listed_of}

@@ -1,2 +1,3 @@
--- An office's own texts, checked independently of it.
+-- An office's own texts and its own folders, checked independently of it.
 pub mod OwnTexts
+pub mod OwnFolders

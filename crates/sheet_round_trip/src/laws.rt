@@ -1,5 +1,6 @@
 //! The results of checking the texts that an office prints.
 
+ghost use Rattle.sheet_round_trip.specs.OwnFolders.{OwnFoldersAreConfirmed, OwnFoldersAreOfAnOffice};
 ghost use Rattle.sheet_round_trip.specs.OwnTexts.{DeclaredAreFinished, OwnBallotsAreRead, OwnDeclarationsAreConfirmed, OwnSheetsAreConfirmed};
 
 use checker::ballots_read_back;
@@ -15,6 +16,19 @@ pub fn own_texts_are_confirmed()
     ensures sheets { OwnSheetsAreConfirmed }
     ensures declarations { OwnDeclarationsAreConfirmed }
     ensures finished { DeclaredAreFinished }
+{
+    // called for their laws
+    texts_are_there();
+    ballots_read_back();
+    columns_of(&[]);
+}
+
+/// States the law of an office's own folders. In every state, the files that the office publishes with its ballots are those of an
+/// election that may occur in an office. If a folder is known to have exactly these files, `checker`'s `check_folder` confirms it, with
+/// their number. It has no other result for the folder, unless an allocation fails.
+pub fn own_folders_are_confirmed()
+    ensures office { OwnFoldersAreOfAnOffice }
+    ensures confirmed { OwnFoldersAreConfirmed }
 {
     // called for their laws
     texts_are_there();
