@@ -1,12 +1,13 @@
 -- The texts of a small ward, written by hand: two papers, a withdrawn number, a name with quotation marks, and a lot.
-use Rattle.std.proofs.Common.{◌++◌, [], ◌∷◌, refl}
+use Rattle.std.proofs.Common.{◌≡◌, ◌++◌, true, [], ◌∷◌, refl}
 use Rattle.std.specs.Fmt.{digits}
 use Rattle.std.specs.List.Sorted.{IsStrictlySortedBy}
 use Rattle.std.specs.Char.{encode_utf8}
 use Rattle.std.specs.Prelude.{codes}
 use Rattle.std.specs.Str.{chars, is_utf8}
 use Rattle.count.specs.Law.Count.{stages_to}
-use Rattle.sheet.specs.Lines.{line}
+use Rattle.sheet.specs.Lines.{joined, line}
+use Rattle.publication.specs.Files.{names}
 use Rattle.register.specs.StateConditions.{IsState, is_batch, is_candidate, is_judged_paper, is_keyed_paper, is_lot, is_ward, all_agreed, all_counted}
 use Rattle.register.specs.BatchConditions.{are_numbered, are_rounds_to}
 use Rattle.register.specs.Ranges.{is_name}
@@ -17,6 +18,7 @@ use Rattle.register.specs.declared.phase.Phase.TheVariants.{Declared}
 use Rattle.register.specs.WorkedOffice.{batch_in, keyed}
 use Rattle.paper.specs.Preferences.{preferences_from}
 use Rattle.office.specs.declared.sheets.WardText.TheVariants.{Ballots, Declaration, Sheet}
+use Rattle.published_office.specs.OfficeFolder.{published_of}
 use Rattle.sheet_round_trip.specs.OwnTexts.{IsFinished, IsTold, IsWardOf}
 
 -- Harbour has two seats and three candidates; number 2 withdrew. Two clerks keyed its two papers identically, the second as doubtful,
@@ -82,3 +84,10 @@ sheet_told : IsTold worked harbour Sheet
     ++ codes "Stage 3: exclusion of 4, last vacancies\n 1       1.00000 e Dee\n 3       0.50000 E Eve \"Bo\"\n 4       0.50000 x Fay\n         0.00000 non-transferable\n         0.00000 lost by fractions\n")
 unfolding stages_to same_marks preferences_from line digits
 sheet_told = refl
+
+-- the files that are published of it with the ballots
+files_published : names (published_of (codes "Council") true worked) ≡
+    codes "index.html" ∷ codes "ward-7.html" ∷ codes "ward-7-sheet.txt" ∷ codes "ward-7-declaration.txt" ∷ codes "ward-7-table.csv" ∷ codes "ward-7-ballots.txt"
+    ∷ codes "results.json" ∷ codes "check.html" ∷ codes "SHA256SUMS" ∷ []
+unfolding digits joined
+files_published = refl
