@@ -20,7 +20,7 @@ use Rattle.checker.specs.declared.folder_checking.FolderChecked.TheVariants.{Con
 use Rattle.checker.specs.declared.input_files.NotRead.{NotRead}
 use Rattle.checker.specs.declared.input_files.NotRead.TheVariants as unread
 use Rattle.published_office.specs.OfficeFolder.{published_of}
-use Rattle.sheet_round_trip.specs.OwnFolders.{IsFolderConfirmed, OwnFoldersAreConfirmed, OwnFoldersAreOfAnOffice}
+use Rattle.sheet_round_trip.specs.OwnFolders.{IsFolderConfirmed, OwnFoldersAreConfirmed, OwnFoldersAreOfficeFolders}
 
 -- ---- the names of the files
 
@@ -106,5 +106,5 @@ module _ (held : InputFiles) (path : List ℕ) (files : List FileEntry) (office 
   pub folder_confirmed : IsFolderConfirmed held path (length files)
   folder_confirmed = record { alone = alone; unhindered = unhindered }
 
-pub own_confirmed : OwnFoldersAreOfAnOffice → OwnFoldersAreConfirmed
+pub own_confirmed : OwnFoldersAreOfficeFolders → OwnFoldersAreConfirmed
 own_confirmed office s title held path is text known = folder_confirmed held path (published_of title true s) (office s title is text) known

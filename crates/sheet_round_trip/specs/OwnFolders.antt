@@ -18,8 +18,8 @@ pub record IsFolderConfirmed (held : InputFiles) (path : List ℕ) (count : ℕ)
   pub unhindered : (why : NotRead) → AreNamesUnreadBy held path why → why ≡ Memory
 
 -- the files that an office publishes with its ballots at a state, under a title that is UTF-8, are those of a published election, as it may occur in an office
-abbrev pub OwnFoldersAreOfAnOffice : Type 0
-OwnFoldersAreOfAnOffice = (s : OfficeState) (title : List ℕ) → IsState s → is_utf8 title ≡ true → IsOfficeFolder (published_of title true s)
+abbrev pub OwnFoldersAreOfficeFolders : Type 0
+OwnFoldersAreOfficeFolders = (s : OfficeState) (title : List ℕ) → IsState s → is_utf8 title ≡ true → IsOfficeFolder (published_of title true s)
 
 -- a folder that is known to have exactly these files is confirmed, with their number
 abbrev pub OwnFoldersAreConfirmed : Type 0

@@ -1,6 +1,6 @@
 //! The results of checking the texts that an office prints.
 
-ghost use Rattle.sheet_round_trip.specs.OwnFolders.{OwnFoldersAreConfirmed, OwnFoldersAreOfAnOffice};
+ghost use Rattle.sheet_round_trip.specs.OwnFolders.{OwnFoldersAreConfirmed, OwnFoldersAreOfficeFolders};
 ghost use Rattle.sheet_round_trip.specs.OwnTexts.{DeclaredAreFinished, OwnBallotsAreRead, OwnDeclarationsAreConfirmed, OwnSheetsAreConfirmed};
 
 use checker::ballots_read_back;
@@ -27,7 +27,7 @@ pub fn own_texts_are_confirmed()
 /// election that may occur in an office. If a folder is known to have exactly these files, `checker`'s `check_folder` confirms it, with
 /// their number. It has no other result for the folder, unless an allocation fails.
 pub fn own_folders_are_confirmed()
-    ensures office { OwnFoldersAreOfAnOffice }
+    ensures office { OwnFoldersAreOfficeFolders }
     ensures confirmed { OwnFoldersAreConfirmed }
 {
     // called for their laws
