@@ -24,9 +24,9 @@ use Rattle.sheet.specs.declared.ward.Poll.{Poll}
 use Rattle.checker.specs.BallotsRoundTrip.{AreSmall}
 use Rattle.checker.specs.Checks.{EndsAt, dues_of, undrawn, undrawn_by}
 use Rattle.checker.specs.Counts.{IsWardCount, undrawn_at}
-use Rattle.checker.specs.Folders.{AreShown, MayEnd}
+use Rattle.checker.specs.Folders.{AreShown, MayEnd, SealedEntry}
+use Rattle.checker.specs.Reading.{ReaderEntry}
 use Rattle.checker.specs.Wards.{contest_in, numbers_of}
-use Rattle.checker.specs.declared.counting.WardCount.{WardCount}
 use Rattle.register.specs.Marks.{columns_of}
 use Rattle.register.specs.Elections.{ElectionEntry, contest_of, due_of, elected_of, has_count, is_drawn_for, is_finished, stages_of}
 use Rattle.office.specs.Sheets.{candidate_shown, shown_with}
@@ -56,19 +56,26 @@ poll_by e b = cond b (Some (record { valid = length e.ballots.papers; rejected =
 abbrev pub shown_by : ElectionEntry → Bool → SheetEntry
 shown_by e b = shown_with (poll_by e b) e
 
--- a count of a ward that its texts can show, given whether the ward is contested, and whether it is declared
+-- a sealed ward with a count that the texts of an election can show, given whether the election is contested, and whether it is declared
 pub record HasCount (e : ElectionEntry) (b declared : Bool) : Type 0 where
-  pub count : WardCount
-  pub is : IsWardCount (poll_by e b) (shown_by e b) (cond b (bundled e.ballots.papers) []) (cond b e.lots []) count
-  pub ends : MayEnd declared count.end
-  pub shows : AreShown declared count.stages.items (cond b (reverse (stages_of e)) [])
-  pub elects : declared ≡ true → count.elected ≡ elected_of e
+  pub ward : SealedEntry
+  pub is : IsWardCount (poll_by e b) (shown_by e b) (cond b (bundled e.ballots.papers) []) (cond b e.lots []) ward.count
+  pub ends : MayEnd declared ward.count.end
+  pub shows : AreShown declared ward.count.stages.items (cond b (reverse (stages_of e)) [])
+  pub elects : declared ≡ true → ward.count.elected ≡ elected_of e
 
-module _ (e : ElectionEntry) (own : map (λ (candidate : ℕ × List ℕ). candidate.0) (map candidate_shown e.candidates) ≡ columns_of e.candidates) where
+module _ (e : ElectionEntry) (own : map (λ (candidate : ℕ × List ℕ). candidate.0) (map candidate_shown e.candidates) ≡ columns_of e.candidates)
+    (reading : ReaderEntry)
+  where
   -- an uncontested ward
   uncontested_count : (declared : Bool) → has_count e ≡ false → HasCount e false declared
   uncontested_count declared uncontested = record {
-    count = record { stages = vec_of [] (omega arith); elected = numbers_of (shown_by e false); end = end.Finished };
+    ward = record {
+      reading = reading;
+      count = record { stages = vec_of [] (omega arith); elected = numbers_of (shown_by e false); end = end.Finished };
+      stages = [];
+      is_declared = declared;
+    };
     is = record { none = refl; chosen = refl; finished = refl };
     ends = tt;
     shows = record { done = 0; first = refl; whole = λ _. refl };
@@ -96,7 +103,12 @@ module _ (e : ElectionEntry) (own : map (λ (candidate : ℕ × List ℕ). candi
         let all : Vec Stage = vec_of stages (few_stages contest e.lots (stages_of e) fair_here (right_so_far e poll own)) in
         let ends : EndsAt contest e.lots stages end.Finished = counted e poll own contested finished in
         record {
-          count = record { stages = all; elected = elected_after contest (reverse stages); end = end.Finished };
+          ward = record {
+            reading = reading;
+            count = record { stages = all; elected = elected_after contest (reverse stages); end = end.Finished };
+            stages = stages;
+            is_declared = true;
+          };
           is = record { contest = fair_here; by_lots = record { counted = ends; chosen = refl; drawn = undrawn_here } };
           ends = tt;
           shows = record { done = length stages; first = sym (take-length stages); whole = λ _. refl };
@@ -117,7 +129,12 @@ module _ (e : ElectionEntry) (own : map (λ (candidate : ℕ × List ℕ). candi
           ended = subst (λ (h : History). end_after contest e.lots h ≡ Some whole.why) again whole.ended;
         } in
         record {
-          count = record { stages = all; elected = elected_after contest (reverse stages); end = whole.why };
+          ward = record {
+            reading = reading;
+            count = record { stages = all; elected = elected_after contest (reverse stages); end = whole.why };
+            stages = reverse (stages_of e);
+            is_declared = false;
+          };
           is = record { contest = fair_here; by_lots = record { counted = ends; chosen = refl; drawn = none_undrawn whole.why (dues_of contest e.lots) e.lots undrawn_here } };
           ends = whole.may;
           shows = record { done = length (stages_of e); first = first_of (stages_of e) whole.stages begins; whole = λ declared. absurd (cc) };

@@ -147,18 +147,18 @@ made_of title s w sealed back own none counted =
     let declared : Bool = is_declared w.phase in
     let of = read_as (election_shown e) (bundles_shown e) (lots_shown e) back in
     let reading : ReaderEntry = back.reading in
-    let ward : SealedEntry = record { reading = reading; count = counted.count; stages = stages_shown e; is_declared = declared } in
+    let ward : SealedEntry = record { reading = reading; count = counted.ward.count; stages = stages_shown e; is_declared = declared } in
     let so : IsSealed ward = record {
       understood = of (λ shown bs ls. read (ballots shown bs (lots_in shown.poll ls)) ≡ Ok reading)
           (ap (λ (ls : List (ℕ × ℕ)). read (ballots (election_shown e) (bundles_shown e) ls)) (own_lots e) ∙ back.understood);
-      counted = of (λ shown bs ls. IsWardCount shown.poll shown bs ls counted.count) counted.is;
+      counted = of (λ shown bs ls. IsWardCount shown.poll shown bs ls counted.ward.count) counted.is;
       ends = counted.ends;
       shows = counted.shows;
     } in
     record {
       ward = ward;
       so = so;
-      texts_are = of (λ shown bs ls. texts_as title shown bs (lots_in shown.poll ls) (stages_shown e) (surpluses_in shown.poll shown bs ls (length (stages_shown e))) counted.count.elected declared
-          ≡ office_texts title true e) (same_texts e title counted.count.elected own none counted.elects);
-      listed_is = of (λ shown bs ls. listed_as shown counted.count.elected declared ≡ listed_shown (ward_view_of s w)) (same_listed s w counted.count.elected sealed counted.elects);
+      texts_are = of (λ shown bs ls. texts_as title shown bs (lots_in shown.poll ls) (stages_shown e) (surpluses_in shown.poll shown bs ls (length (stages_shown e))) counted.ward.count.elected declared
+          ≡ office_texts title true e) (same_texts e title counted.ward.count.elected own none counted.elects);
+      listed_is = of (λ shown bs ls. listed_as shown counted.ward.count.elected declared ≡ listed_shown (ward_view_of s w)) (same_listed s w counted.ward.count.elected sealed counted.elects);
     }
