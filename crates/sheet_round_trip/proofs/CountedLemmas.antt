@@ -67,85 +67,85 @@ pub record HasCount (e : ElectionEntry) (b declared : Bool) : Type 0 where
 module _ (e : ElectionEntry) (own : map (λ (candidate : ℕ × List ℕ). candidate.0) (map candidate_shown e.candidates) ≡ columns_of e.candidates)
     (reading : ReaderEntry)
   where
-  -- an uncontested ward
-  uncontested_count : (declared : Bool) → has_count e ≡ false → HasCount e false declared
-  uncontested_count declared uncontested = record {
-    ward = record {
-      reading = reading;
-      count = record { stages = vec_of [] (omega arith); elected = numbers_of (shown_by e false); end = end.Finished };
-      stages = [];
-      is_declared = declared;
-    };
-    is = record { none = refl; chosen = refl; finished = refl };
-    ends = tt;
-    shows = record { done = 0; first = refl; whole = λ _. refl };
-    elects = λ _. own ∙ sym (cond-false (has_count e) _ _ uncontested);
-  }
+    -- an uncontested ward
+    uncontested_count : (declared : Bool) → has_count e ≡ false → HasCount e false declared
+    uncontested_count declared uncontested = record {
+      ward = record {
+        reading = reading;
+        count = record { stages = vec_of [] (omega arith); elected = numbers_of (shown_by e false); end = end.Finished };
+        stages = [];
+        is_declared = declared;
+      };
+      is = record { none = refl; chosen = refl; finished = refl };
+      ends = tt;
+      shows = record { done = 0; first = refl; whole = λ _. refl };
+      elects = λ _. own ∙ sym (cond-false (has_count e) _ _ uncontested);
+    }
 
-  -- a contested ward, each of whose recorded lots is drawn
-  module _ (contested : has_count e ≡ true) (fair : IsContest (contest_of e)) (drawn : list_all (is_drawn_for e) e.lots ≡ true) (small : AreSmall e.lots) where
-    abbrev poll : Option Poll
-    poll = poll_by e true
+    -- a contested ward, each of whose recorded lots is drawn
+    module _ (contested : has_count e ≡ true) (fair : IsContest (contest_of e)) (drawn : list_all (is_drawn_for e) e.lots ≡ true) (small : AreSmall e.lots) where
+      abbrev poll : Option Poll
+      poll = poll_by e true
 
-    abbrev contest : Contest
-    contest = contest_in (shown_by e true) (bundled e.ballots.papers)
+      abbrev contest : Contest
+      contest = contest_in (shown_by e true) (bundled e.ballots.papers)
 
-    fair_here : IsContest contest
-    fair_here = fair_on_bundles e poll own fair
+      fair_here : IsContest contest
+      fair_here = fair_on_bundles e poll own fair
 
-    undrawn_here : undrawn contest e.lots ≡ None
-    undrawn_here = all_drawn e poll own drawn small
+      undrawn_here : undrawn contest e.lots ≡ None
+      undrawn_here = all_drawn e poll own drawn small
 
-    -- which is declared
-    declared_count : is_finished (due_of e) ≡ true → HasCount e true true
-    declared_count finished =
-        let stages : List Stage = reverse (stages_of e) in
-        let all : Vec Stage = vec_of stages (few_stages contest e.lots (stages_of e) fair_here (right_so_far e poll own)) in
-        let ends : EndsAt contest e.lots stages end.Finished = counted e poll own contested finished in
-        record {
-          ward = record {
-            reading = reading;
-            count = record { stages = all; elected = elected_after contest (reverse stages); end = end.Finished };
-            stages = stages;
-            is_declared = true;
-          };
-          is = record { contest = fair_here; by_lots = record { counted = ends; chosen = refl; drawn = undrawn_here } };
-          ends = tt;
-          shows = record { done = length stages; first = sym (take-length stages); whole = λ _. refl };
-          elects = λ _. same_elected e poll own contested finished;
-        }
+      -- which is declared
+      declared_count : is_finished (due_of e) ≡ true → HasCount e true true
+      declared_count finished =
+          let stages : List Stage = reverse (stages_of e) in
+          let all : Vec Stage = vec_of stages (few_stages contest e.lots (stages_of e) fair_here (right_so_far e poll own)) in
+          let ends : EndsAt contest e.lots stages end.Finished = counted e poll own contested finished in
+          record {
+            ward = record {
+              reading = reading;
+              count = record { stages = all; elected = elected_after contest (reverse stages); end = end.Finished };
+              stages = stages;
+              is_declared = true;
+            };
+            is = record { contest = fair_here; by_lots = record { counted = ends; chosen = refl; drawn = undrawn_here } };
+            ends = tt;
+            shows = record { done = length stages; first = sym (take-length stages); whole = λ _. refl };
+            elects = λ _. same_elected e poll own contested finished;
+          }
 
-    -- which isn't declared: the lots for later stages have yet to be drawn, or stages have yet to be carried out
-    sealed_count : HasCount e true false
-    sealed_count =
-        let whole : HasEnd contest e.lots = has_end contest e.lots fair_here (all_tied e poll own e.lots drawn) in
-        let stages : List Stage = reverse whole.stages in
-        let all : Vec Stage = vec_of stages (few_stages contest e.lots whole.stages fair_here whole.right) in
-        let again : whole.stages ≡ reverse stages = sym (reverse-reverse whole.stages) in
-        let only : IsWholeCount contest e.lots whole.stages = whole_count contest e.lots whole.stages whole.why whole.right whole.ended in
-        let begins : IsBeginning (stages_of e) whole.stages = only.begins_each contest.papers (stages_of e) (IsPermutation-refl contest.papers) (right_so_far e poll own) in
-        let ends : EndsAt contest e.lots stages whole.why = record {
-          whole = subst (IsWholeCount contest e.lots) again only;
-          ended = subst (λ (h : History). end_after contest e.lots h ≡ Some whole.why) again whole.ended;
-        } in
-        record {
-          ward = record {
-            reading = reading;
-            count = record { stages = all; elected = elected_after contest (reverse stages); end = whole.why };
-            stages = reverse (stages_of e);
-            is_declared = false;
-          };
-          is = record { contest = fair_here; by_lots = record { counted = ends; chosen = refl; drawn = none_undrawn whole.why (dues_of contest e.lots) e.lots undrawn_here } };
-          ends = whole.may;
-          shows = record { done = length (stages_of e); first = first_of (stages_of e) whole.stages begins; whole = λ declared. absurd (cc) };
-          elects = λ declared. absurd (cc);
-        }
+      -- which isn't declared: the lots for later stages have yet to be drawn, or stages have yet to be carried out
+      sealed_count : HasCount e true false
+      sealed_count =
+          let whole : HasEnd contest e.lots = has_end contest e.lots fair_here (all_tied e poll own e.lots drawn) in
+          let stages : List Stage = reverse whole.stages in
+          let all : Vec Stage = vec_of stages (few_stages contest e.lots whole.stages fair_here whole.right) in
+          let again : whole.stages ≡ reverse stages = sym (reverse-reverse whole.stages) in
+          let only : IsWholeCount contest e.lots whole.stages = whole_count contest e.lots whole.stages whole.why whole.right whole.ended in
+          let begins : IsBeginning (stages_of e) whole.stages = only.begins_each contest.papers (stages_of e) (IsPermutation-refl contest.papers) (right_so_far e poll own) in
+          let ends : EndsAt contest e.lots stages whole.why = record {
+            whole = subst (IsWholeCount contest e.lots) again only;
+            ended = subst (λ (h : History). end_after contest e.lots h ≡ Some whole.why) again whole.ended;
+          } in
+          record {
+            ward = record {
+              reading = reading;
+              count = record { stages = all; elected = elected_after contest (reverse stages); end = whole.why };
+              stages = reverse (stages_of e);
+              is_declared = false;
+            };
+            is = record { contest = fair_here; by_lots = record { counted = ends; chosen = refl; drawn = none_undrawn whole.why (dues_of contest e.lots) e.lots undrawn_here } };
+            ends = whole.may;
+            shows = record { done = length (stages_of e); first = first_of (stages_of e) whole.stages begins; whole = λ declared. absurd (cc) };
+            elects = λ declared. absurd (cc);
+          }
 
-  pub count_of : (declared : Bool) → (declared ≡ true → is_finished (due_of e) ≡ true) → (has_count e ≡ true → IsContest (contest_of e))
-      → (has_count e ≡ true → list_all (is_drawn_for e) e.lots ≡ true) → AreSmall e.lots → HasCount e (has_count e) declared
-  count_of declared finished fair drawn small = go (has_count e) refl declared finished
-    where
-      go : (b : Bool) → has_count e ≡ b → (d : Bool) → (d ≡ true → is_finished (due_of e) ≡ true) → HasCount e b d
-      go false uncontested d finished_if = uncontested_count d uncontested
-      go true contested true finished_if = declared_count contested (fair contested) (drawn contested) small (finished_if refl)
-      go true contested false finished_if = sealed_count contested (fair contested) (drawn contested) small
+    pub count_of : (declared : Bool) → (declared ≡ true → is_finished (due_of e) ≡ true) → (has_count e ≡ true → IsContest (contest_of e))
+        → (has_count e ≡ true → list_all (is_drawn_for e) e.lots ≡ true) → AreSmall e.lots → HasCount e (has_count e) declared
+    count_of declared finished fair drawn small = go (has_count e) refl declared finished
+      where
+        go : (b : Bool) → has_count e ≡ b → (d : Bool) → (d ≡ true → is_finished (due_of e) ≡ true) → HasCount e b d
+        go false uncontested d finished_if = uncontested_count d uncontested
+        go true contested true finished_if = declared_count contested (fair contested) (drawn contested) small (finished_if refl)
+        go true contested false finished_if = sealed_count contested (fair contested) (drawn contested) small

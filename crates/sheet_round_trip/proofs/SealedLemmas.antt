@@ -158,7 +158,7 @@ made_of title s w sealed back own none counted =
     record {
       ward = ward;
       so = so;
-      texts_are = of (λ shown bs ls. texts_as title shown bs (lots_in shown.poll ls) (stages_shown e) (surpluses_in shown.poll shown bs ls (length (stages_shown e))) counted.ward.count.elected declared
-          ≡ office_texts title true e) (same_texts e title counted.ward.count.elected own none counted.elects);
+      texts_are = of (λ shown bs ls. texts_as title shown bs (lots_in shown.poll ls) (stages_shown e) (surpluses_in shown.poll shown bs ls (length (stages_shown e)))
+          counted.ward.count.elected declared ≡ office_texts title true e) (same_texts e title counted.ward.count.elected own none counted.elects);
       listed_is = of (λ shown bs ls. listed_as shown counted.ward.count.elected declared ≡ listed_shown (ward_view_of s w)) (same_listed s w counted.ward.count.elected sealed counted.elects);
     }
