@@ -195,20 +195,22 @@ def recovery(room, count):
         table.row(what, f"{min(run[1] for run in runs):.2f}", f"{max(run[2] for run in runs):.0f}")
     wrong_if(min(run[1] for run in replays) > RECOVERED * min(run[1] for run in journals), f"`replay` takes more than {RECOVERED} times as long")
 
-def bench_second(room, rounds=20, papers=100000):
+def bench_second(room, rounds=200, papers=100000):
     """Times keyings of an office that is served with a second record, and without; and how a new office is made from a large one's record.
 
-    One clerk keys ROUNDS batches of five papers over HTTP, one after the other; both files are in one folder, on one disk. The middle of
-    five turns with a record takes at most 1.5 times as long as without. Then the journal of an office of so many PAPERS is printed, and
+    One clerk keys ROUNDS batches of five papers over HTTP, one after the other; both files are in one folder, on one disk. One more
+    keying comes first and isn't timed, since `serve` has just begun: with a record it then finds out how much room is left. The middle
+    of five turns with a record takes at most 1.5 times as long as without. Then the journal of an office of so many PAPERS is printed, and
     replayed in a new office, which takes at most three times the processor time of that. It needs GNU's `time`.
     """
     needs("time")
     found = {(): [], ("--second", "town.script"): []}
     for turn in range(TURNS):
         for words, times in found.items():
-            made, requests = office_to_key(room / f"{turn}-{len(words)}", rounds, 5)
+            made, requests = office_to_key(room / f"{turn}-{len(words)}", rounds + 1, 5)
             with made.serve(*words).wait() as serving:
-                times.append(1000 / keyed(serving, [requests[1]])[0])
+                keyed(serving, [requests[1][:1]])
+                times.append(1000 / keyed(serving, [requests[1][1:]])[0])
     alone, recorded = (sorted(times)[TURNS // 2] for times in found.values())
     Table("A keying of five papers", "without a second record", "with one").row("takes", f"{alone:.1f} ms", f"{recorded:.1f} ms")
     recovery(room, papers)
