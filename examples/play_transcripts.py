@@ -22,7 +22,7 @@ import time
 from concurrent.futures import ThreadPoolExecutor
 
 HERE = pathlib.Path(__file__).resolve().parent
-TOWN, COPY, FILE = "town.db", "copy.db", "FILE"
+TOWN, COPY, FILE, CODES = "town.db", "copy.db", "FILE", "codes.txt"
 SECONDS = 60
 
 sys.path.insert(0, str(HERE.parent / "tools"))
@@ -127,12 +127,13 @@ def received(line, sends):
 
 
 def ask(folder, sends):
-    """Serves one client, which sends these bytes, and returns the response."""
+    """Serves one client, which sends these bytes, and returns the response. If there is a file of codes, the office has these codes."""
+    codes = ["--codes", CODES] if (folder / CODES).exists() else []
     for _ in range(10):
         with socket.socket() as listener:
             listener.bind(("127.0.0.1", 0))
             port = listener.getsockname()[1]
-        server = subprocess.Popen([PROGRAM, TOWN, "serve", str(port), "1"], cwd=folder, stdin=subprocess.DEVNULL,
+        server = subprocess.Popen([PROGRAM, TOWN, "serve", str(port), "1", *codes], cwd=folder, stdin=subprocess.DEVNULL,
                                   stdout=subprocess.PIPE, stderr=subprocess.PIPE)
         line = connected(server, port)
         answer = received(line, sends) if line else None
@@ -149,12 +150,14 @@ def ask(folder, sends):
 def answer_of(told):
     """The answer of which the status and the body stand in a transcript."""
     phrase, body = told.split("\n", 1)
-    phrase, allowed = re.match(r"(.*?)(?: \((.*)\))?$", phrase).groups()
+    phrase, named = re.match(r"(.*?)(?: \((.*)\))?$", phrase).groups()
     kind = "text/plain; charset=utf-8"
     if body.endswith("}\n"):
         kind, body = "application/json", body.rstrip()
-    allow = f"Allow: {allowed}\r\n" if allowed else ""
-    return f"HTTP/1.1 {phrase}\r\nContent-Type: {kind}\r\nContent-Length: {len(body.encode())}\r\n{allow}Connection: close\r\n\r\n{body}"
+    line = ""
+    if named:
+        line = f'WWW-Authenticate: Basic realm="{named}", charset="UTF-8"\r\n' if phrase.startswith("401 ") else f"Allow: {named}\r\n"
+    return f"HTTP/1.1 {phrase}\r\nContent-Type: {kind}\r\nContent-Length: {len(body.encode())}\r\n{line}Connection: close\r\n\r\n{body}"
 
 
 def work_of(folder, clerk):
@@ -184,6 +187,7 @@ def compare(asked, told):
 def play_one(folder, asked):
     if asked.kind == "=":
         (folder / asked.line).write_bytes(asked.file or b"")
+        (folder / asked.line).chmod(0o600)
     elif asked.kind == "#":
         change(folder, asked.line)
     elif asked.kind == "@":

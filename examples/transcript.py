@@ -17,7 +17,8 @@ A transcript has plays, each over a new file, in a folder of its own:
     < 1,1,2,                               that is no UTF-8; after `<\\ ` without it too, with \\r, \\t, \\n and \\xff; after
                                            `<* 100 ` so many times)
     batch 12 round 1 keyed                 what goes to the output
-    = names.csv                            lines of a file that stays there for the play
+    = names.csv                            lines of a file that stays there for the play; with one codes.txt, these are the codes
+                                           of those who ask over HTTP
     $ declare 7 --id d1
     1| refused 9: wrong phase              with a status that isn't 0, what goes to the error output (`0| ..` to the output)
     !| note: b1 was kept ..                what goes to the error output where the status is 0
@@ -31,6 +32,7 @@ A transcript has plays, each over a new file, in a folder of its own:
     >
     409 Conflict
     {"refusal":3,"text":"number out of range"}
+                                           (after `405 Method Not Allowed` the methods, in parentheses; after `401 Unauthorized` the realm)
     -- a note
 
 After a status that isn't 0 there is no file that wasn't there before.

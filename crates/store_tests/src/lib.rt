@@ -26,10 +26,6 @@ mod clients;
 mod begun;
 // The tests.
 #[cfg(test)]
-mod console;
-#[cfg(test)]
-mod console_reads;
-#[cfg(test)]
 mod copies;
 #[cfg(test)]
 mod http;

@@ -109,15 +109,6 @@ pub fn expect_unchanged<M: TestHost + Drop>(
     Ok(host)
 }
 
-/// Does the same as `expect_unchanged` for a single step.
-pub fn hear_one_unchanged<M: TestHost + Drop>(
-    rt: &(impl Abort + AllocGlobal),
-    host: M,
-    case: Case<'_>,
-) -> Result<M, Fail> {
-    expect_unchanged(rt, host, &[case])
-}
-
 /// Has both clerks of batch 12 key the given papers, which are the text of a file.
 fn key<M: TestHost + Drop>(
     rt: &(impl Abort + AllocGlobal),
