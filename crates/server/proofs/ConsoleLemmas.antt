@@ -179,8 +179,20 @@ module _ {S R : Type 0} (settings : ServerSettingsEntry) (view : ServedView S R)
       → ServesAsked settings view old exchange (served_office new (record { reads = kept.reads; limit = limit; recorder = kept.recorder }))
   noted_so old exchange new kept limit (inl (inl (free, it))) = inl (inl (free, noted_still settings.clients view old exchange new kept limit it))
   noted_so old exchange new kept limit (inl (inr (it, emptied))) = inl (inr (it, emptied))
-  noted_so old exchange new kept limit (inr (inl it, emptied)) =
-      inr (inl (record { told = it.told; recorded = it.recorded; failed = it.failed; stays = it.stays; same = it.same }), emptied)
+  noted_so old exchange new kept limit (inr (inl it, emptied)) = inr (
+    inl (record {
+      clerk = it.clerk;
+      batch = it.batch;
+      entry = it.entry;
+      asks = it.asks;
+      told = it.told;
+      recorded = it.recorded;
+      failed = it.failed;
+      stays = it.stays;
+      same = it.same;
+    }),
+    emptied,
+  )
   noted_so old exchange new kept limit (inr (inr it, emptied)) = inr (
     inr (record {
       clerk = it.clerk;

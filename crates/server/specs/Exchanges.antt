@@ -143,6 +143,10 @@ pub record IsRateLimited {S R : Type 0} (settings : HttpSettingsEntry) (old : Se
 
 -- A clerk's keying isn't sent to the office, because the record has failed. The response says so, and the office and its record are unchanged.
 pub record IsKeyingRefused {S R : Type 0} (settings : ServerSettingsEntry) (view : ServedView S R) (old : ServedOffice S R) (exchange : Exchange) (new : ServedOffice S R) : Type 0 where
+  pub clerk : ℕ
+  pub batch : ℕ
+  pub entry : KeyingEntry
+  pub asks : Asks settings.clients exchange.got (keying clerk batch entry)
   pub told : IsUnrecordedResponse exchange
   pub recorded : settings.recorded ≡ true
   pub failed : view.failed old.kept.recorder ≡ true

@@ -34,10 +34,27 @@ returns-in-Resource-clause-served g c = λ number moment.
 -- a keying, but the record has failed before
 pub returns-then-has_failed-clause-served : goal.returns-then-has_failed-clause-served
 returns-then-has_failed-clause-served g c = λ number moment.
+    let its = settings_entry c.args.server_settings.http in
+    let got = c.args.got.now in
+    let k = c.in-Keying.keying in
+    let asks = subst (λ (a : HttpRequest). Asks its got (http_request_entry a)) c.in-Keying.is (c.in-Ok.ensures c.requires) in
     let told = c.unrecorded_response.ensures.told
-    (record { listener = Clients; number = number; moment = moment; got = c.args.got.now; answer = c.unrecorded_response.result.bytes.items }) refl in
+    (record { listener = Clients; number = number; moment = moment; got = got; answer = c.unrecorded_response.result.bytes.items }) refl in
     let failed = sym c.has_failed.ensures.value ∙ c.if-has_failed.true in
-    inr (inl (record { told = told; recorded = c.has_failed.ensures.recorded failed; failed = failed; stays = refl; same = refl }), c.empty-in-Keying.ensures)
+    inr (
+      inl (record {
+        clerk = k.clerk;
+        batch = k.batch;
+        entry = keying_entry k;
+        asks = asks;
+        told = told;
+        recorded = c.has_failed.ensures.recorded failed;
+        failed = failed;
+        stays = refl;
+        same = refl;
+      }),
+      c.empty-in-Keying.ensures,
+    )
 
 -- a keying that wasn't accepted
 pub returns-in-None-clause-served : goal.returns-in-None-clause-served
