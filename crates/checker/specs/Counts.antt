@@ -61,8 +61,8 @@ lots_of recorded added = with_more (with_lots [] recorded) added
 
 -- ---- the count
 
--- The stage of the first recorded lot that isn't drawn. A count that waits for a lot waits for it before every later stage too, so a lot for a later stage, which has yet to be
--- drawn, isn't meant. If a lot names none of the tied candidates, the count is refused for that by whoever asks for it (IsNoLotLine, MayEnd).
+-- The stage of the first recorded lot that isn't drawn. If the count waits for a lot, it is due before every later stage too, so lots for later stages, which have yet to be drawn,
+-- aren't meant. If a lot names none of the tied candidates, the count is refused for that reason by each caller (problem_of, IsNoLotLine, MayEnd).
 abbrev pub undrawn_at : CountEnd → List Due → List (ℕ × ℕ) → Option ℕ
 undrawn_at end.Finished dues lots = undrawn_by dues lots
 undrawn_at (end.LotNeeded stage among) dues lots = undrawn_by dues lots

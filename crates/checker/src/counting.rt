@@ -27,8 +27,8 @@ pub(crate) struct WardCount {
     pub(crate) end: CountEnd,
 }
 
-/// Returns the stage of the first recorded lot that isn't drawn, of those for stages before the one that the count may wait at.
-/// `None` if there is none, or if a lot names none of the tied candidates, for which callers refuse the count.
+/// Returns the stage of the first recorded lot that isn't drawn; lots for later stages than the one the count waits at don't matter.
+/// `None` if there is none, or if a lot names none of the tied candidates, since each caller refuses the count for that.
 fn undrawn_at(end: &CountEnd, dues: &[Due], lots: &[(u8, u8)]) -> Option<u8>
     ensures { result ≡ undrawn_at end.now dues.now lots.now }
 {
