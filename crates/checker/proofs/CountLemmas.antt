@@ -29,7 +29,7 @@ ends_at contest lots stages history why is whole ended = record {
 -- a lot that isn't drawn, in a count that has ended
 pub undrawn_so : (why : CountEnd) (dues : List Due) (lots : List (ℕ × ℕ)) (stage : ℕ) → Some stage ≡ undrawn_at why dues lots → undrawn_by dues lots ≡ Some stage
 undrawn_so end.Finished dues lots stage is = sym is
-undrawn_so (end.LotNeeded k among) dues lots stage is = absurd (cc is)
+undrawn_so (end.LotNeeded k among) dues lots stage is = sym is
 undrawn_so (end.LotNotAmong k) dues lots stage is = absurd (cc is)
 
 -- the count of a contest, given its history

@@ -11,7 +11,9 @@ use Rattle.publication.specs.Election.{WardEntry, ascend_from}
 use Rattle.publication.specs.Files.{FileEntry, file_entry, names}
 use Rattle.publication.specs.declared.files.PublishedFile.{PublishedFile}
 use Rattle.publication.specs.Folder.{published}
+use Rattle.count.specs.Bundles.{Bundle}
 use Rattle.count.specs.declared.stages.Stage.{Stage}
+use Rattle.sheet.specs.Entries.{SheetEntry}
 use Rattle.sheet.specs.Index.{ListedEntry, elected_shown, index, listed}
 use Rattle.sheet.specs.Sheet.{sheet}
 use Rattle.sheet.specs.declared.index.WardStanding.{WardStanding}
@@ -19,10 +21,11 @@ use Rattle.sheet.specs.declared.index.WardStanding.TheVariants.{Keying, Nominati
 use Rattle.sheet.specs.declared.index.ListedWard.{ListedWard}
 use Rattle.checker.specs.FolderChecks.{IsFoundConfirmed}
 use Rattle.checker.specs.FolderViews.{IsContent, IsFileIn, are_same, has_name, has_text, is_file, is_found, is_named, name_of}
-use Rattle.checker.specs.FolderWards.{AreWardsMade, IsElectionMade, IsMadeAs, IsMadeFrom, IsReadingMade, IsUnsealedMade, IsWardMade, made_election, told_texts}
-use Rattle.checker.specs.Folders.{AreShown, FolderWard, HasExactly, IsConfirmedFolder, IsPublishedFolder, IsSealed, SealedEntry, UnsealedEntry}
+use Rattle.checker.specs.FolderWards.{AreWardsMade, IsElectionMade, IsMadeAs, IsMadeFrom, IsReadingMade, IsUnsealedMade, IsWardMade, MayShow, made_election, told_texts}
+use Rattle.checker.specs.Folders.{AreShown, FolderWard, HasExactly, IsConfirmedFolder, IsPublishedFolder, IsSealed, MayEnd, SealedEntry, UnsealedEntry}
 use Rattle.checker.specs.Folders.{ballots_of, is_sealed, is_unsealed, listed_as, listed_of, lots_of, passed_of, sealed_in, texts_as, texts_of, ward_of}
-use Rattle.checker.specs.Counts.{surpluses_in}
+use Rattle.checker.specs.Counts.{IsWardCount, lots_in, surpluses_in}
+use Rattle.checker.specs.Wards.{ward_told}
 use Rattle.checker.specs.InputFiles.{InputFiles, HoldsInside, HoldsNames}
 use Rattle.checker.specs.Reading.{ReaderEntry, read}
 use Rattle.checker.specs.Tokens.{Text}
@@ -32,7 +35,8 @@ use Rattle.checker.specs.declared.folder_files.FileContent.TheVariants.{Bytes, U
 use Rattle.checker.specs.declared.folder_files.FolderFile.{FolderFile}
 use Rattle.checker.specs.declared.folder_texts.SealedTexts.{SealedTexts}
 use Rattle.checker.specs.declared.folder_wards.SealedWard.{SealedWard}
-use Rattle.checker.proofs.CountLemmas.{ward_once}
+use Rattle.checker.specs.declared.counting.WardCount.{WardCount}
+use Rattle.checker.proofs.CountLemmas.{AreSameCount, ward_once}
 use Rattle.checker.proofs.LineLaws.{and_parts}
 use Rattle.checker.proofs.NumberLaws.{pointwise_same}
 
@@ -188,7 +192,7 @@ ward_made title ballots is_declared text reading made understood is same =
     let own : string_bytes made.texts.ballots ≡ ballots_of w = ap (λ (t : WardEntry). unwrap_or t.ballots []) is.texts_are in
     record {
       ward = w;
-      so = record { understood = ap read (sym own ∙ same) ∙ understood; counted = is.counted; ends = is.ends; shows = is.shows.shows };
+      so = record { understood = ap read (sym own ∙ same) ∙ understood; counted = is.counted; ends = is.ends; shows = is.shows.shows; drawn = is.drawn };
       texts_are = is.texts_are;
       listed_is = is.listed_is;
     }
@@ -208,6 +212,35 @@ found_confirmed found files count same is many = record { files = map file_entry
 -- the texts of a ward show its whole count
 pub all_shown : (is_declared : Bool) (all : List Stage) → AreShown is_declared all all
 all_shown is_declared all = record { done = length all; first = sym (take_all (length all) all (omega arith)); whole = λ so. refl }
+
+-- the texts of a ward may show the same of another count with the same stages and end
+pub shown_alike : (lots : List (ℕ × ℕ)) (is_declared : Bool) (one other : WardCount) (stages : List Stage) → AreSameCount one other → MayShow lots is_declared other stages
+    → MayShow lots is_declared one stages
+shown_alike lots is_declared one other stages same is = record {
+  ends = subst (MayEnd is_declared) (sym same.end) is.ends;
+  shows = subst (λ all. AreShown is_declared all stages) (sym same.stages) is.shows;
+  drawn = is.drawn;
+}
+
+-- what follows from what the texts of a ward may show, for the ward of an office with the given ballots
+pub office_shows : (reading : ReaderEntry) (ward : SealedEntry) (entry : SheetEntry) (bundles : List Bundle) (lots : List (ℕ × ℕ)) (is_declared : Bool) (text : Option Text) (P : Type 0)
+    → IsSealed ward → ward.reading ≡ reading → entry ≡ ward_told reading → bundles ≡ reading.papers.bundles → lots ≡ reading.remarks.lots → is_declared ≡ ward.is_declared
+    → text ≡ Some (sheet (ward_of ward) ward.stages)
+    → ((count : WardCount) (stages : List Stage) → IsWardCount entry.poll entry bundles lots count → MayShow (lots_in entry.poll lots) is_declared count stages
+    → text ≡ Some (sheet entry stages) → P) → P
+office_shows reading ward entry bundles lots is_declared text P so same told packed drawn declared sheet_is follows =
+    let w : entry ≡ ward_of ward = told ∙ ap ward_told (sym same) in
+    let bs : bundles ≡ ward.reading.papers.bundles = packed ∙ ap (λ (r : ReaderEntry). r.papers.bundles) (sym same) in
+    let ls : lots ≡ ward.reading.remarks.lots = drawn ∙ ap (λ (r : ReaderEntry). r.remarks.lots) (sym same) in
+    let shows : MayShow (lots_of ward) ward.is_declared ward.count ward.stages = record { ends = so.ends; shows = so.shows; drawn = so.drawn } in
+    follows ward.count ward.stages
+    (subst (λ v. IsWardCount v.poll v bundles lots ward.count) (sym w)
+    (subst (λ b. IsWardCount (ward_of ward).poll (ward_of ward) b lots ward.count) (sym bs)
+    (subst (λ l. IsWardCount (ward_of ward).poll (ward_of ward) ward.reading.papers.bundles l ward.count) (sym ls) so.counted)))
+    (subst (λ v. MayShow (lots_in v.poll lots) is_declared ward.count ward.stages) (sym w)
+    (subst (λ l. MayShow (lots_in (ward_of ward).poll l) is_declared ward.count ward.stages) (sym ls)
+    (subst (λ d. MayShow (lots_of ward) d ward.count ward.stages) (sym declared) shows)))
+    (sheet_is ∙ ap (λ v. Some (sheet v ward.stages)) (sym w))
 
 -- a ward that isn't sealed, as it is listed
 pub unsealed_listed : (number seats : ℕ) (name : Text) (is_keying : Bool) (standing : WardStanding) (elected : List (ℕ × String Global))

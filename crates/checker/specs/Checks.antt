@@ -44,7 +44,7 @@ is_drawn_by dues stage = is_lot (slice_index_or dues (stage - 1) due.Finished)
 abbrev pub undrawn_by : List Due → List (ℕ × ℕ) → Option ℕ
 undrawn_by dues lots = option_map (λ lot. lot.0) (find (λ lot. not (is_drawn_by dues lot.0)) lots)
 
--- what is due before each of the first 256 stages of a count; a count is finished by then
+-- what is due before each of the first 256 stages of a count; after its end, the same is due before each later stage: nothing, or the lot that it waits for
 unfoldable pub dues_of : Contest → List (ℕ × ℕ) → List Due
 dues_of contest lots = map (λ k. due_after contest (stages_to contest lots k)) (range_with_len 0 256)
 

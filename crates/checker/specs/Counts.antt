@@ -61,10 +61,11 @@ lots_of recorded added = with_more (with_lots [] recorded) added
 
 -- ---- the count
 
--- the stage of the first recorded lot that isn't drawn, if the count is finished; if it isn't, the lots for later stages have yet to be drawn
+-- The stage of the first recorded lot that isn't drawn. If the count waits for a lot, it is due before every later stage too, so lots for later stages, which have yet to be drawn,
+-- aren't meant. If a lot names none of the tied candidates, the count is refused for that reason by each caller (problem_of, IsNoLotLine, MayEnd).
 abbrev pub undrawn_at : CountEnd → List Due → List (ℕ × ℕ) → Option ℕ
 undrawn_at end.Finished dues lots = undrawn_by dues lots
-undrawn_at (end.LotNeeded stage among) dues lots = None
+undrawn_at (end.LotNeeded stage among) dues lots = undrawn_by dues lots
 undrawn_at (end.LotNotAmong stage) dues lots = None
 
 -- the count of a contest with the given lots: the whole count, which is the only count, the candidates elected by it, and the reason why it ends

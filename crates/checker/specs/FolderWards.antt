@@ -12,7 +12,7 @@ use Rattle.sheet.specs.Sheet.{sheet}
 use Rattle.sheet.specs.declared.ward.Poll.{Poll}
 use Rattle.checker.specs.Counts.{IsWardCount, lots_in, surpluses_in}
 use Rattle.checker.specs.Folders.{AreShown, FolderWard, IsSealed, IsUnsealedText, MayEnd, SealedEntry, UnsealedEntry}
-use Rattle.checker.specs.Folders.{ballots_of, is_sealed, is_unsealed, listed_as, listed_of, sealed_in, texts_as, texts_of, ward_of}
+use Rattle.checker.specs.Folders.{ballots_of, early_lot, is_sealed, is_unsealed, listed_as, listed_of, sealed_in, texts_as, texts_of, ward_of}
 use Rattle.checker.specs.FolderViews.{bytes_named}
 use Rattle.checker.specs.IndexPage.{PageEntry, RowEntry}
 use Rattle.checker.specs.Reading.{ReaderEntry}
@@ -47,6 +47,12 @@ abbrev pub HasStages : Option Poll → List Stage → Type 0
 HasStages None stages = stages ≡ []
 HasStages (Some poll) stages = ⊤
 
+-- the count of a ward may end as it does, and the ward's texts may show the given stages and lots
+pub record MayShow (lots : List (ℕ × ℕ)) (is_declared : Bool) (count : WardCount) (stages : List Stage) : Type 0 where
+  pub ends : MayEnd is_declared count.end
+  pub shows : AreShown is_declared count.stages.items stages
+  pub drawn : early_lot stages lots ≡ None
+
 -- a sealed ward was counted from the given bundles and lots, and made again under the given title, given the content of its sheet, if it was read
 pub record IsCountMade (title : Text) (ward : SheetEntry) (bundles : List Bundle) (lots : List (ℕ × ℕ)) (is_declared : Bool) (text : Option Text) (made : SealedWard) : Type 0 where
   pub count : WardCount
@@ -54,6 +60,7 @@ pub record IsCountMade (title : Text) (ward : SheetEntry) (bundles : List Bundle
   pub counted : IsWardCount ward.poll ward bundles lots count
   pub ends : MayEnd is_declared count.end
   pub shows : AreShownBy ward is_declared text count.stages.items stages
+  pub drawn : early_lot stages (lots_in ward.poll lots) ≡ None
   pub texts_are : told_texts made.texts ≡ texts_as title ward bundles (lots_in ward.poll lots) stages (surpluses_in ward.poll ward bundles lots (length stages)) count.elected is_declared
   pub listed_is : listed made.listed ≡ listed_as ward count.elected is_declared
 

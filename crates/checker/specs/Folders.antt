@@ -1,6 +1,6 @@
 -- A folder in which an election was published, checked by nothing but its own files: what has to be in it.
-use Rattle.std.specs.Prelude.{◌≡◌, ◌≤◌, ℕ, nat_eq, nat_lt, Bool, true, false, if◌then◌else◌, List, [], ◌∷◌, length, map, take, Some, None, Ok, ⊤}
-use Rattle.std.specs.List.{All, Contains, filter, list_any}
+use Rattle.std.specs.Prelude.{◌≡◌, ◌≤◌, ◌+◌, ℕ, nat_eq, nat_lt, Bool, true, false, if◌then◌else◌, List, [], ◌∷◌, length, map, take, option_map, Option, Some, None, Ok, ⊤}
+use Rattle.std.specs.List.{All, Contains, filter, find, list_any}
 use Rattle.std.specs.Str.{is_utf8}
 use Rattle.count.specs.Bundles.{Bundle}
 use Rattle.count.specs.declared.count_to_end.CountEnd.{CountEnd}
@@ -81,18 +81,24 @@ pub record AreShown (is_declared : Bool) (all stages : List Stage) : Type 0 wher
   pub first : stages ≡ take done all
   pub whole : is_declared ≡ true → stages ≡ all
 
+-- the stage of the first lot that can't have been drawn yet when the given stages are done: it is later than the next one
+abbrev pub early_lot : List Stage → List (ℕ × ℕ) → Option ℕ
+early_lot stages lots = option_map (λ lot. lot.0) (find (λ lot. nat_lt (length stages + 1) lot.0) lots)
+
 -- how the count of a ward may end: that of a declared ward is finished; that of another may be waiting for a lot
 abbrev pub MayEnd : Bool → CountEnd → Type 0
 MayEnd is_declared end.Finished = ⊤
 MayEnd is_declared (end.LotNeeded stage among) = is_declared ≡ false
 MayEnd is_declared (end.LotNotAmong stage) = ⊥
 
--- The ward is the one that its ballots describe, and it has the count of these ballots with the lots recorded in them, which is the only count by the rules.
+-- The ward is the one that its ballots describe, and it has the count of these ballots with the lots recorded in them, which is the only count by the rules. Each lot that its
+-- texts show was drawn in that count, at one of the stages that they show or at the next one.
 pub record IsSealed (w : SealedEntry) : Type 0 where
   pub understood : read (ballots_of w) ≡ Ok w.reading
   pub counted : IsWardCount (ward_of w).poll (ward_of w) w.reading.papers.bundles w.reading.remarks.lots w.count
   pub ends : MayEnd w.is_declared w.count.end
   pub shows : AreShown w.is_declared w.count.stages.items w.stages
+  pub drawn : early_lot w.stages (lots_of w) ≡ None
 
 -- a ward that isn't sealed: its number, name and seats, and whether its papers are being keyed
 pub record UnsealedEntry : Type 0 where

@@ -27,13 +27,14 @@ pub(crate) struct WardCount {
     pub(crate) end: CountEnd,
 }
 
-/// Returns the stage of the first recorded lot that isn't drawn. `None` if there is none, or if the count isn't finished.
+/// Returns the stage of the first recorded lot that isn't drawn; lots for later stages than the one the count waits at don't matter.
+/// `None` if there is none, or if a lot names none of the tied candidates, since each caller refuses the count for that.
 fn undrawn_at(end: &CountEnd, dues: &[Due], lots: &[(u8, u8)]) -> Option<u8>
     ensures { result ≡ undrawn_at end.now dues.now lots.now }
 {
     match end {
-        CountEnd::Finished => undrawn_by(dues, lots),
-        CountEnd::LotNeeded { .. } | CountEnd::LotNotAmong { .. } => None,
+        CountEnd::Finished | CountEnd::LotNeeded { .. } => undrawn_by(dues, lots),
+        CountEnd::LotNotAmong { .. } => None,
     }
 }
 

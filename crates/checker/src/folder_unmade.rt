@@ -45,6 +45,9 @@ fn push_missing(
 fn ward_words(alloc: Global, fault: &WardFault) -> Result<String, AllocError> {
     match fault {
         WardFault::Ballots(problem) => format!(in alloc; "can't be counted: {problem}"),
+        WardFault::EarlyLot { stage } => format!(in alloc;
+            "a lot is recorded for stage {stage}, which the count on the sheet hasn't reached"
+        ),
         WardFault::OtherForm { line } => {
             format!(in alloc; "line {line} isn't written as the order ballots writes it")
         }

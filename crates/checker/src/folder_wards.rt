@@ -1,17 +1,18 @@
 //! A sealed ward of a folder, made again from its ballots.
 
-ghost use Rattle.std.specs.Prelude.{◌≡◌, bytes_eq, false, option_copied, IfErr, IfOk, None, Some};
+ghost use Rattle.std.specs.Prelude.{◌≡◌, bytes_eq, false, option_copied, IfErr, IfOk, List, None, Some};
 ghost use Rattle.sheet.specs.Entries.{shown};
 ghost use Rattle.sheet.specs.Sheet.{sheet};
 ghost use Rattle.sheet.specs.Wards.{CanBePrinted};
-ghost use Rattle.checker.specs.Counts.{IsWardCount};
-ghost use Rattle.checker.specs.Folders.{AreShown, IsSealed, MayEnd, SealedEntry};
-ghost use Rattle.checker.specs.FolderWards.{AreShownBy, HasStages, IsCountMade, IsMadeAs, IsMadeFrom, IsReadingMade, IsWardMade, OkUnless};
+ghost use Rattle.checker.specs.Counts.{IsWardCount, lots_in};
+ghost use Rattle.checker.specs.Folders.{AreShown, IsSealed, MayEnd, SealedEntry, early_lot, ward_of};
+ghost use Rattle.checker.specs.FolderWards.{AreShownBy, HasStages, IsCountMade, IsMadeAs, IsMadeFrom, IsReadingMade, IsWardMade, MayShow, OkUnless};
+ghost use Rattle.count.specs.declared.stages.Stage.{Stage};
 ghost use Rattle.checker.specs.Values.{ballots_of};
 ghost use Rattle.checker.specs.declared.counting.WardCount.{WardCount};
 
 use crate::ballot_counts::{lots_in, surpluses_in};
-use crate::counting::count_of;
+use crate::counting::{WardCount, count_of};
 use crate::differences::first_difference;
 use crate::file_content::WardBallots;
 use crate::folder_texts::{SealedTexts, listed_ward, sealed_texts};
@@ -41,6 +42,8 @@ pub(crate) struct Progress<'a> {
 pub(crate) enum WardFault {
     /// The ballots or their lots have a problem, or an allocation failed.
     Ballots(Problem),
+    /// A lot is recorded for stage `stage`, which is later than the next one after those that the sheet shows.
+    EarlyLot { stage: u8 },
     /// The ballots aren't written as an office writes them. The first line that differs is `line`, counted from 1.
     OtherForm { line: u64 },
 }
@@ -137,30 +140,69 @@ fn shown_stages<'a>(
     }
 }
 
+/// Returns the stage of the first lot that can't have been drawn yet when the given stages are done; `None` if there is none.
+fn early_lot(stages: &[Stage], lots: &[(u8, u8)]) -> Option<u8>
+    ensures { result ≡ early_lot stages.now lots.now }
+{
+    for lot in lots {
+        if stages.len() + 1 < usize::from(lot.0) {
+            return Some(lot.0);
+        }
+    }
+    None
+}
+
+/// Returns the stages that the texts of a counted ward show.
+///
+/// The fault is that its count can't end as it does, that a recorded lot can't have been drawn by then, or that an allocation failed.
+fn stages_in<'a>(
+    alloc: Global,
+    election: &Election,
+    count: &'a WardCount,
+    progress: Progress,
+) -> Result<&'a [Stage], WardFault>
+    requires ward { CanBePrinted election.now.ward }
+    requires stages { HasStages election.now.ward.poll count.now.stages.items }
+    ensures may { let e = election.now in IfOk result (λ stages. MayShow (lots_in e.ward.poll e.lots.now) progress.entry.is_declared count.now stages.now) }
+    ensures shows { IfOk result (λ stages. AreShownBy (shown election.now.ward) progress.entry.is_declared (option_copied progress.entry.sheet) count.now.stages.items stages.now) }
+    ensures only { let e = election.now in (others : List Stage) → MayShow (lots_in e.ward.poll e.lots.now) progress.entry.is_declared count.now others
+        → option_copied progress.entry.sheet ≡ Some (sheet (shown e.ward) others) → IfErr result (λ fault. fault ≡ WardFault.Ballots Problem.Memory) }
+{
+    match end_problem(count.end, progress.is_declared) {
+        Some(problem) => return Err(WardFault::Ballots(problem)),
+        None => {}
+    }
+    let Ok(stages) = shown_stages(alloc, &election.ward, &count.stages, progress) else {
+        return Err(WardFault::Ballots(Problem::Memory));
+    };
+    match early_lot(stages, lots_in(election)) {
+        Some(stage) => Err(WardFault::EarlyLot { stage }),
+        None => Ok(stages),
+    }
+}
+
 /// Counts a ward, and makes it again.
 fn counted_ward(
     alloc: Global,
     title: &str,
     election: &Election,
     progress: Progress,
-) -> Result<SealedWard, Problem>
+) -> Result<SealedWard, WardFault>
     requires { CanBePrinted election.now.ward }
     ensures ok { let e = election.now in
         IfOk result (IsCountMade title.now (shown e.ward) e.bundles.now e.lots.now progress.entry.is_declared (option_copied progress.entry.sheet)) }
-    ensures only { let e = election.now in (count : WardCount) → IsWardCount e.ward.poll (shown e.ward) e.bundles.now e.lots.now count → MayEnd progress.entry.is_declared count.end
-        → IfErr result (λ problem. problem ≡ Problem.Memory) }
+    ensures only { let e = election.now in (count : WardCount) (stages : List Stage) → IsWardCount e.ward.poll (shown e.ward) e.bundles.now e.lots.now count
+        → MayShow (lots_in e.ward.poll e.lots.now) progress.entry.is_declared count stages → option_copied progress.entry.sheet ≡ Some (sheet (shown e.ward) stages)
+        → IfErr result (λ fault. fault ≡ WardFault.Ballots Problem.Memory) }
 {
-    let count = count_of(alloc, election)?;
-    let is_declared = progress.is_declared;
-    match end_problem(count.end, is_declared) {
-        Some(problem) => return Err(problem),
-        None => {}
-    }
-    let Ok(stages) = shown_stages(alloc, &election.ward, &count.stages, progress) else {
-        return Err(Problem::Memory);
+    let count = match count_of(alloc, election) {
+        Ok(count) => count,
+        Err(problem) => return Err(WardFault::Ballots(problem)),
     };
+    let is_declared = progress.is_declared;
+    let stages = stages_in(alloc, election, &count, progress)?;
     let Ok(surpluses) = surpluses_in(alloc, election, &count, stages.len()) else {
-        return Err(Problem::Memory);
+        return Err(WardFault::Ballots(Problem::Memory));
     };
     let shown = CountShown {
         stages,
@@ -168,11 +210,11 @@ fn counted_ward(
         surpluses: &surpluses,
     };
     let Ok(texts) = sealed_texts(alloc, title, election, &shown, count.elected, is_declared) else {
-        return Err(Problem::Memory);
+        return Err(WardFault::Ballots(Problem::Memory));
     };
     match listed_ward(alloc, &election.ward, &count.elected, is_declared) {
         Ok(listed) => Ok(SealedWard { texts, listed }),
-        Err(_) => Err(Problem::Memory),
+        Err(_) => Err(WardFault::Ballots(Problem::Memory)),
     }
 }
 
@@ -182,13 +224,13 @@ fn ward_from(
     title: &str,
     told: &WardBallots,
     progress: Progress,
-) -> Result<SealedWard, Problem>
+) -> Result<SealedWard, WardFault>
     ensures ok { IfOk result (IsReadingMade title.now (ballots_of told.now) progress.entry.is_declared (option_copied progress.entry.sheet)) }
     ensures only { (ward : SealedEntry) → IsSealed ward → ward.reading ≡ ballots_of told.now → progress.entry.is_declared ≡ ward.is_declared
-        → IfErr result (λ problem. problem ≡ Problem.Memory) }
+        → option_copied progress.entry.sheet ≡ Some (sheet (ward_of ward) ward.stages) → IfErr result (λ fault. fault ≡ WardFault.Ballots Problem.Memory) }
 {
     let Ok(candidates) = candidates_of(alloc, &told.withdrawn, &told.names.names) else {
-        return Err(Problem::Memory);
+        return Err(WardFault::Ballots(Problem::Memory));
     };
     let election = Election {
         ward: ward_in(told, &candidates),
@@ -220,10 +262,7 @@ pub(crate) fn sealed_ward(
         Ok(told) => told,
         Err(problem) => return Err(WardFault::Ballots(problem)),
     };
-    let made = match ward_from(alloc, title, &told, progress) {
-        Ok(made) => made,
-        Err(problem) => return Err(WardFault::Ballots(problem)),
-    };
+    let made = ward_from(alloc, title, &told, progress)?;
     if are_bytes(made.texts.ballots.as_str(), ballots) {
         return Ok(made);
     }

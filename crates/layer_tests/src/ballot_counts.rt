@@ -104,7 +104,7 @@ const UNCONTESTED: &str = "2 3\n0\n\"Ann\"\n\"Bob\"\n\"Harbour\"\n";
 
 /// Ballots, the lots added to them, and a kind of text; then the expected text, and the line about a lot that is
 /// needed.
-const COUNTED: [(&str, &[(u8, u8)], CountText, &str, &str); 12] = [
+const COUNTED: [(&str, &[(u8, u8)], CountText, &str, &str); 13] = [
     (BALLOTS, &[], CountText::Sheet, SHEET, ""),
     (BALLOTS, &[], CountText::Declaration, DECLARATION, ""),
     (BALLOTS, &[], CountText::Table, TABLE, ""),
@@ -113,6 +113,7 @@ const COUNTED: [(&str, &[(u8, u8)], CountText, &str, &str); 12] = [
     (BALLOTS, &[], CountText::Ballots, BALLOTS, ""),
     (TIED, &[], CountText::Sheet, TIED_SHEET, TIED_LINE),
     (TIED, &[], CountText::Declaration, "", TIED_LINE),
+    (TIED, &[(3, 2)], CountText::Sheet, TIED_SHEET, TIED_LINE),
     (TIED, &[(2, 3)], CountText::Sheet, DRAWN_SHEET, ""),
     (TIED, &[(2, 3)], CountText::Ballots, DRAWN_BALLOTS, ""),
     (DRAWN_BALLOTS, &[], CountText::Sheet, DRAWN_SHEET, ""),
@@ -126,7 +127,7 @@ const COUNTED: [(&str, &[(u8, u8)], CountText, &str, &str); 12] = [
 ];
 
 /// Ballots, the lots added to them, and why they can't be counted.
-const NOT_COUNTED: [(&str, &[(u8, u8)], &str); 6] = [
+const NOT_COUNTED: [(&str, &[(u8, u8)], &str); 7] = [
     ("3 0\n", &[], "line 1 of the ballots: no seats"),
     (
         TIED,
@@ -137,6 +138,11 @@ const NOT_COUNTED: [(&str, &[(u8, u8)], &str); 6] = [
         TIED,
         &[(3, 2), (2, 3)],
         "a lot is recorded for stage 3, and none is drawn there",
+    ),
+    (
+        TIED,
+        &[(1, 2)],
+        "a lot is recorded for stage 1, and none is drawn there",
     ),
     (TIED, &[(2, 3), (2, 3)], "two lots at stage 2"),
     (DRAWN_BALLOTS, &[(2, 2)], "two lots at stage 2"),

@@ -1,5 +1,5 @@
 //! A published folder, checked by its own files: it is confirmed as it was published, and no changed byte, missing file or added
-//! name goes unnoticed.
+//! name goes unnoticed, nor does a lot that can't have been drawn yet.
 
 use crate::checker_texts::BALLOTS;
 use crate::sheet_outputs::candidates_of;
@@ -55,6 +55,21 @@ const UNCOUNTED: &str = r#"2 1
 "Sound"
 # Ward 15
 # Rejected 1: 0, 2: 0, 3: 0, 4: 0, 5: 2
+"#;
+
+/// The ballots of the tied ward, with the lot that is drawn at its second stage.
+const EARLY: &str = r#"3 1
+2 1 0
+1 2 0
+1 3 0
+0
+"Ann <b> & "
+"Bob"
+"Cy"
+"Hill"
+# Ward 9
+# Rejected 1: 1, 2: 0, 3: 0, 4: 0, 5: 0
+# Lot at stage 2: 3
 "#;
 
 /// What is different in a folder from what was published.
@@ -172,6 +187,41 @@ fn texts_of(alloc: Global, ballots: &str) -> Result<OwnTexts, Fail> {
     })
 }
 
+/// Returns the texts of a sealed ward none of whose stages is done yet, with the given lots.
+fn texts_before(alloc: Global, ward: &Ward, lots: &[(u8, u8)]) -> Result<OwnTexts, Fail> {
+    if !can_be_printed(ward) {
+        return Err(Fail::from("the ward isn't printed"));
+    }
+    let shown = CountShown {
+        stages: &[],
+        lots,
+        surpluses: &[],
+    };
+    Ok(OwnTexts {
+        page: page_text(alloc, ward, TITLE, false, &shown)?,
+        sheet: sheet_text(alloc, ward, &[])?,
+        declaration: String::new(alloc),
+        table: spreadsheet_text(alloc, ward, &[])?,
+        results: results_text(alloc, ward, false, &[], lots)?,
+    })
+}
+
+/// Returns the texts of the tied ward as if none of its stages were done, though its lot is drawn.
+fn early_texts(alloc: Global) -> Result<OwnTexts, Fail> {
+    let candidates = candidates_of(alloc, &[(1, "Ann <b> & "), (2, "Bob"), (3, "Cy")])?;
+    let ward = Ward {
+        number: 9,
+        name: "Hill",
+        seats: 1,
+        candidates: &candidates,
+        poll: Some(Poll {
+            valid: 4,
+            rejected: [1, 0, 0, 0, 0],
+        }),
+    };
+    texts_before(alloc, &ward, &[(2, 3)])
+}
+
 /// Returns the texts of the ward none of whose stages is done yet.
 fn uncounted_texts(alloc: Global) -> Result<OwnTexts, Fail> {
     let candidates = candidates_of(alloc, &[(1, "Flo"), (2, "Gus")])?;
@@ -185,21 +235,7 @@ fn uncounted_texts(alloc: Global) -> Result<OwnTexts, Fail> {
             rejected: [0, 0, 0, 0, 2],
         }),
     };
-    if !can_be_printed(&ward) {
-        return Err(Fail::from("the ward isn't printed"));
-    }
-    let shown = CountShown {
-        stages: &[],
-        lots: &[],
-        surpluses: &[],
-    };
-    Ok(OwnTexts {
-        page: page_text(alloc, &ward, TITLE, false, &shown)?,
-        sheet: sheet_text(alloc, &ward, &[])?,
-        declaration: String::new(alloc),
-        table: spreadsheet_text(alloc, &ward, &[])?,
-        results: results_text(alloc, &ward, false, &[], &[])?,
-    })
+    texts_before(alloc, &ward, &[])
 }
 
 /// Returns what is published of a ward.
@@ -275,19 +311,20 @@ fn index_of(alloc: Global) -> Result<String, AllocError> {
     index_text(alloc, TITLE, &wards)
 }
 
-/// Returns the files of the folder, with or without ballots.
-fn files_of(alloc: Global, with_ballots: bool) -> Result<Vec<PublishedFile>, Fail> {
-    let (seven, nine, twelve) = (
-        texts_of(alloc, BALLOTS)?,
-        texts_of(alloc, TIED)?,
-        texts_of(alloc, UNCONTESTED)?,
-    );
+/// Returns the files of the folder, with or without ballots, given the ballots and the texts of the tied ward.
+fn files_with(
+    alloc: Global,
+    with_ballots: bool,
+    tied: &str,
+    nine: &OwnTexts,
+) -> Result<Vec<PublishedFile>, Fail> {
+    let (seven, twelve) = (texts_of(alloc, BALLOTS)?, texts_of(alloc, UNCONTESTED)?);
     let fifteen = uncounted_texts(alloc)?;
     let index = index_of(alloc)?;
     let ballots = |text| if with_ballots { Some(text) } else { None };
     let wards = [
         published(7, "Harbour", ballots(BALLOTS), &seven),
-        published(9, "Hill", ballots(TIED), &nine),
+        published(9, "Hill", ballots(tied), nine),
         published(12, "Quay", ballots(UNCONTESTED), &twelve),
         published(15, "Sound", ballots(UNCOUNTED), &fifteen),
     ];
@@ -297,6 +334,18 @@ fn files_of(alloc: Global, with_ballots: bool) -> Result<Vec<PublishedFile>, Fai
         wards: &wards,
     };
     Ok(published_files(alloc, &election)?)
+}
+
+/// Returns the files of the folder, with or without ballots.
+fn files_of(alloc: Global, with_ballots: bool) -> Result<Vec<PublishedFile>, Fail> {
+    let nine = texts_of(alloc, TIED)?;
+    files_with(alloc, with_ballots, TIED, &nine)
+}
+
+/// Returns the files of the folder with ballots, if a lot is shown before the stages up to it are.
+fn early_files(alloc: Global) -> Result<Vec<PublishedFile>, Fail> {
+    let nine = early_texts(alloc)?;
+    files_with(alloc, true, EARLY, &nine)
 }
 
 /// Returns the lines about a folder; `None` if it is confirmed.
@@ -363,5 +412,12 @@ fn checks_a_folder(rt: HostRuntime) -> Result<(), Fail> {
     }
     is_noticed(&rt, &files, "notes.txt", Change::Added)?;
     let bare = files_of(rt.alloc(), false)?;
-    is_noticed(&rt, &bare, "no ballots", Change::Nothing)
+    is_noticed(&rt, &bare, "no ballots", Change::Nothing)?;
+    let early = early_files(rt.alloc())?;
+    is_noticed(
+        &rt,
+        &early,
+        "a lot is recorded for stage 2",
+        Change::Nothing,
+    )
 }

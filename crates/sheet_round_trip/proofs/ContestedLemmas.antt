@@ -1,8 +1,8 @@
 -- A contested election and the contest of its bundles: both have the same stages, the same is due, and each recorded lot is drawn.
-use Rattle.std.proofs.Common.{◌≡◌, ℕ, ◌+◌, ◌-◌, ◌≤◌, nat_le, true, not, get_or, List, [], ◌∷◌, map, Option, None, refl, ap, subst, ◌∙◌, arith}
+use Rattle.std.proofs.Common.{◌≡◌, ℕ, ◌+◌, ◌-◌, ◌≤◌, nat_le, nat_lt, true, false, not, get_or, List, [], ◌∷◌, length, map, Option, None, refl, ap, subst, ◌∙◌, arith}
 use Rattle.std.specs.List.{find, list_all, range_with_len}
 use Rattle.std.specs.Option.{option_map}
-use Rattle.std.proofs.lemmas.Bool.{and_from, and_parts}
+use Rattle.std.proofs.lemmas.Bool.{and_from, and_parts, le-ltb, leb-true}
 use Rattle.std.proofs.lemmas.List.FromFn.{get_or-map-range_with_len}
 use Rattle.count.specs.Bundles.{bundled}
 use Rattle.count.specs.Law.Contest.{Contest, IsContest}
@@ -11,10 +11,12 @@ use Rattle.count.specs.Law.Due.{due_after}
 use Rattle.count.specs.Law.Right.{IsRight}
 use Rattle.count.specs.declared.stages.Due.{Due}
 use Rattle.count.specs.declared.stages.Due.TheVariants.{Act, Lot, Finished}
+use Rattle.count.specs.declared.stages.Stage.{Stage}
 use Rattle.count.proofs.Law.CountLemmas.{stages_right}
 use Rattle.sheet.specs.declared.ward.Poll.{Poll}
 use Rattle.checker.specs.Checks.{dues_of, is_drawn_by, is_lot, undrawn}
 use Rattle.checker.specs.BallotsRoundTrip.{AreSmall}
+use Rattle.checker.specs.Folders.{early_lot}
 use Rattle.checker.specs.Wards.{contest_in, numbers_of}
 use Rattle.register.specs.Marks.{columns_of}
 use Rattle.register.specs.Elections.{ElectionEntry, contest_of, is_drawn_for, is_tied, stages_of}
@@ -60,6 +62,19 @@ module _ (e : ElectionEntry) (poll : Option Poll) (own : map (λ (candidate : �
 
   pub all_drawn : list_all (is_drawn_for e) e.lots ≡ true → AreSmall e.lots → undrawn on_bundles e.lots ≡ None
   all_drawn all small = ap (option_map (λ (lot : ℕ × ℕ). lot.0)) (none_undrawn e.lots all small)
+
+  -- and is for one of the completed stages, or for the next
+  soon : (stages : List Stage) (ls : List (ℕ × ℕ)) → length stages ≡ e.ward.done → list_all (is_drawn_for e) ls ≡ true
+      → find (λ (lot : ℕ × ℕ). nat_lt (length stages + 1) lot.0) ls ≡ None
+  soon stages [] many all = refl
+  soon stages (lot ∷ ls) many all =
+      let parts = and_parts (is_drawn_for e lot) (list_all (is_drawn_for e) ls) all in
+      let least : lot.0 ≤ e.ward.done + 1 = leb-true lot.0 (e.ward.done + 1) (and_parts (nat_le lot.0 (e.ward.done + 1)) _ parts.0).0 in
+      let not_later : nat_lt (length stages + 1) lot.0 ≡ false = le-ltb (length stages + 1) lot.0 (omega (arith, least, many)) in
+      rw not_later (soon stages ls many parts.1)
+
+  pub none_early : (stages : List Stage) → length stages ≡ e.ward.done → list_all (is_drawn_for e) e.lots ≡ true → early_lot stages e.lots ≡ None
+  none_early stages many all = ap (option_map (λ (lot : ℕ × ℕ). lot.0)) (soon stages e.lots many all)
 
   -- and names one of the candidates who are tied at its stage
   pub all_tied : (ls : List (ℕ × ℕ)) → list_all (is_drawn_for e) ls ≡ true → list_all (names_tied on_bundles e.lots) ls ≡ true

@@ -24,13 +24,13 @@ use Rattle.sheet.specs.declared.ward.Poll.{Poll}
 use Rattle.checker.specs.BallotsRoundTrip.{AreSmall}
 use Rattle.checker.specs.Checks.{EndsAt, dues_of, undrawn, undrawn_by}
 use Rattle.checker.specs.Counts.{IsWardCount, undrawn_at}
-use Rattle.checker.specs.Folders.{AreShown, MayEnd, SealedEntry}
+use Rattle.checker.specs.Folders.{AreShown, MayEnd, SealedEntry, early_lot}
 use Rattle.checker.specs.Reading.{ReaderEntry}
 use Rattle.checker.specs.Wards.{contest_in, numbers_of}
 use Rattle.register.specs.Marks.{columns_of}
 use Rattle.register.specs.Elections.{ElectionEntry, contest_of, due_of, elected_of, has_count, is_drawn_for, is_finished, stages_of}
 use Rattle.office.specs.Sheets.{candidate_shown, shown_with}
-use Rattle.sheet_round_trip.proofs.ContestedLemmas.{all_drawn, all_tied, fair_on_bundles, right_so_far}
+use Rattle.sheet_round_trip.proofs.ContestedLemmas.{all_drawn, all_tied, fair_on_bundles, none_early, right_so_far}
 use Rattle.sheet_round_trip.proofs.EndLemmas.{HasEnd, first_of, has_end}
 use Rattle.sheet_round_trip.proofs.FinishedLemmas.{counted, same_elected}
 
@@ -46,7 +46,7 @@ few_stages contest lots stages fair right =
 -- if each recorded lot is drawn, none is undrawn however the count ends
 none_undrawn : (why : CountEnd) (dues : List Due) (lots : List (ℕ × ℕ)) → undrawn_by dues lots ≡ None → undrawn_at why dues lots ≡ None
 none_undrawn end.Finished dues lots none = none
-none_undrawn (end.LotNeeded stage among) dues lots none = refl
+none_undrawn (end.LotNeeded stage among) dues lots none = none
 none_undrawn (end.LotNotAmong stage) dues lots none = refl
 
 -- the poll of an election, its ward, and the stages that its texts show, given whether it is contested
@@ -62,6 +62,7 @@ pub record HasCount (e : ElectionEntry) (b declared : Bool) : Type 0 where
   pub is : IsWardCount (poll_by e b) (shown_by e b) (cond b (bundled e.ballots.papers) []) (cond b e.lots []) ward.count
   pub ends : MayEnd declared ward.count.end
   pub shows : AreShown declared ward.count.stages.items (cond b (reverse (stages_of e)) [])
+  pub drawn : early_lot (cond b (reverse (stages_of e)) []) (cond b e.lots []) ≡ None
   pub elects : declared ≡ true → ward.count.elected ≡ elected_of e
 
 module _ (e : ElectionEntry) (own : map (λ (candidate : ℕ × List ℕ). candidate.0) (map candidate_shown e.candidates) ≡ columns_of e.candidates)
@@ -79,11 +80,15 @@ module _ (e : ElectionEntry) (own : map (λ (candidate : ℕ × List ℕ). candi
       is = record { none = refl; chosen = refl; finished = refl };
       ends = tt;
       shows = record { done = 0; first = refl; whole = λ _. refl };
+      drawn = refl;
       elects = λ _. own ∙ sym (cond-false (has_count e) _ _ uncontested);
     }
 
     -- a contested ward, each of whose recorded lots is drawn
-    module _ (contested : has_count e ≡ true) (fair : IsContest (contest_of e)) (drawn : list_all (is_drawn_for e) e.lots ≡ true) (small : AreSmall e.lots) where
+    module _
+        (contested : has_count e ≡ true) (fair : IsContest (contest_of e)) (drawn : list_all (is_drawn_for e) e.lots ≡ true) (as_many : length (stages_of e) ≡ e.ward.done)
+        (small : AreSmall e.lots)
+      where
       abbrev poll : Option Poll
       poll = poll_by e true
 
@@ -95,6 +100,9 @@ module _ (e : ElectionEntry) (own : map (λ (candidate : ℕ × List ℕ). candi
 
       undrawn_here : undrawn contest e.lots ≡ None
       undrawn_here = all_drawn e poll own drawn small
+
+      none_early_here : early_lot (reverse (stages_of e)) e.lots ≡ None
+      none_early_here = none_early e poll own (reverse (stages_of e)) (length-reverse (stages_of e) ∙ as_many) drawn
 
       -- which is declared
       declared_count : is_finished (due_of e) ≡ true → HasCount e true true
@@ -112,6 +120,7 @@ module _ (e : ElectionEntry) (own : map (λ (candidate : ℕ × List ℕ). candi
             is = record { contest = fair_here; by_lots = record { counted = ends; chosen = refl; drawn = undrawn_here } };
             ends = tt;
             shows = record { done = length stages; first = sym (take-length stages); whole = λ _. refl };
+            drawn = none_early_here;
             elects = λ _. same_elected e poll own contested finished;
           }
 
@@ -138,14 +147,16 @@ module _ (e : ElectionEntry) (own : map (λ (candidate : ℕ × List ℕ). candi
             is = record { contest = fair_here; by_lots = record { counted = ends; chosen = refl; drawn = none_undrawn whole.why (dues_of contest e.lots) e.lots undrawn_here } };
             ends = whole.may;
             shows = record { done = length (stages_of e); first = first_of (stages_of e) whole.stages begins; whole = λ declared. absurd (cc) };
+            drawn = none_early_here;
             elects = λ declared. absurd (cc);
           }
 
     pub count_of : (declared : Bool) → (declared ≡ true → is_finished (due_of e) ≡ true) → (has_count e ≡ true → IsContest (contest_of e))
-        → (has_count e ≡ true → list_all (is_drawn_for e) e.lots ≡ true) → AreSmall e.lots → HasCount e (has_count e) declared
-    count_of declared finished fair drawn small = go (has_count e) refl declared finished
+        → (has_count e ≡ true → list_all (is_drawn_for e) e.lots ≡ true) → (has_count e ≡ true → length (stages_of e) ≡ e.ward.done) → AreSmall e.lots
+        → HasCount e (has_count e) declared
+    count_of declared finished fair drawn as_many small = go (has_count e) refl declared finished
       where
         go : (b : Bool) → has_count e ≡ b → (d : Bool) → (d ≡ true → is_finished (due_of e) ≡ true) → HasCount e b d
         go false uncontested d finished_if = uncontested_count d uncontested
-        go true contested true finished_if = declared_count contested (fair contested) (drawn contested) small (finished_if refl)
-        go true contested false finished_if = sealed_count contested (fair contested) (drawn contested) small
+        go true contested true finished_if = declared_count contested (fair contested) (drawn contested) (as_many contested) small (finished_if refl)
+        go true contested false finished_if = sealed_count contested (fair contested) (drawn contested) (as_many contested) small

@@ -28,7 +28,7 @@ use Rattle.published_office.specs.OfficeFolder.{election_published, published_of
 use Rattle.sheet_round_trip.proofs.BallotLemmas.{can_be_read_back, own_lots_small, own_numbers}
 use Rattle.sheet_round_trip.proofs.CountedLemmas.{count_of}
 use Rattle.sheet_round_trip.proofs.SealedLemmas.{IsMadeOf, made_of}
-use Rattle.sheet_round_trip.proofs.StateLemmas.{counted_right, declared_is_finished, drawn_and_ended, no_stages}
+use Rattle.sheet_round_trip.proofs.StateLemmas.{as_many_done, counted_right, declared_is_finished, drawn_and_ended, no_stages}
 use Rattle.sheet_round_trip.proofs.UnsealedLemmas.{same_row, unsealed_of}
 
 -- ---- the order of wards
@@ -121,7 +121,7 @@ module _
         let small = own_lots_small s w is there (columns s w.number is) fine in
         let right = counted_right s w is there in
         let back = read_back _ _ _ (can w there) in
-        let counted = count_of e own back.reading (is_declared w.phase) (declared_is_finished e sealed right) fine.counted (λ contested. (drawn_and_ended e sealed right contested).0) small in
+        let counted = count_of e own back.reading (is_declared w.phase) (declared_is_finished e sealed right) fine.counted (λ contested. (drawn_and_ended e sealed right contested).0) (as_many_done e sealed right) small in
         made_of title s w sealed back own (no_stages e sealed right) counted
 
     -- a ward that isn't sealed

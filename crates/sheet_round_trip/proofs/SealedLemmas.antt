@@ -16,7 +16,7 @@ use Rattle.sheet.specs.declared.ward.Poll.{Poll}
 use Rattle.publication.specs.Election.{WardEntry as PublishedWard}
 use Rattle.checker.specs.BallotsRoundTrip.{IsReadBack}
 use Rattle.checker.specs.Counts.{IsWardCount, lots_in, surpluses_in}
-use Rattle.checker.specs.Folders.{IsSealed, SealedEntry, is_sealed, listed_as, listed_of, texts_as, texts_of}
+use Rattle.checker.specs.Folders.{IsSealed, SealedEntry, early_lot, is_sealed, listed_as, listed_of, texts_as, texts_of}
 use Rattle.checker.specs.Reading.{ReaderEntry, read}
 use Rattle.checker.specs.Wards.{ward_told}
 use Rattle.register.specs.declared.phase.Phase.{Phase}
@@ -154,6 +154,7 @@ made_of title s w sealed back own none counted =
       counted = of (λ shown bs ls. IsWardCount shown.poll shown bs ls counted.ward.count) counted.is;
       ends = counted.ends;
       shows = counted.shows;
+      drawn = of (λ shown bs ls. early_lot (stages_shown e) (lots_in shown.poll ls) ≡ None) (ap (early_lot (stages_shown e)) (own_lots e) ∙ counted.drawn);
     } in
     record {
       ward = ward;

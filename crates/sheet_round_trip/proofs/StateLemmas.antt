@@ -54,6 +54,12 @@ module _ (e : ElectionEntry) (sealed : is_counted e.ward.phase ≡ true) (right 
       let so_far : is_right_so_far e ≡ true = sym (cond-true (is_in_count e) _ _ (rw sealed contested)) ∙ right in
       and_parts (list_all (is_drawn_for e) e.lots) is_ended (and_parts (length (stages_of e) == e.ward.done) _ so_far).1
 
+  -- and as many stages are completed as are recorded
+  pub as_many_done : has_count e ≡ true → length (stages_of e) ≡ e.ward.done
+  as_many_done contested =
+      let so_far : is_right_so_far e ≡ true = sym (cond-true (is_in_count e) _ _ (rw sealed contested)) ∙ right in
+      eqb-true (length (stages_of e)) e.ward.done (and_parts (length (stages_of e) == e.ward.done) _ so_far).0
+
   -- if the ward is uncontested, it has no stages
   pub no_stages : has_count e ≡ false → stages_of e ≡ []
   unfolding stages_to
