@@ -89,67 +89,67 @@ module _ (e : ElectionEntry) (own : map (λ (candidate : ℕ × List ℕ). candi
         (contested : has_count e ≡ true) (fair : IsContest (contest_of e)) (drawn : list_all (is_drawn_for e) e.lots ≡ true) (as_many : length (stages_of e) ≡ e.ward.done)
         (small : AreSmall e.lots)
       where
-      abbrev poll : Option Poll
-      poll = poll_by e true
+        abbrev poll : Option Poll
+        poll = poll_by e true
 
-      abbrev contest : Contest
-      contest = contest_in (shown_by e true) (bundled e.ballots.papers)
+        abbrev contest : Contest
+        contest = contest_in (shown_by e true) (bundled e.ballots.papers)
 
-      fair_here : IsContest contest
-      fair_here = fair_on_bundles e poll own fair
+        fair_here : IsContest contest
+        fair_here = fair_on_bundles e poll own fair
 
-      undrawn_here : undrawn contest e.lots ≡ None
-      undrawn_here = all_drawn e poll own drawn small
+        undrawn_here : undrawn contest e.lots ≡ None
+        undrawn_here = all_drawn e poll own drawn small
 
-      none_early_here : early_lot (reverse (stages_of e)) e.lots ≡ None
-      none_early_here = none_early e poll own (reverse (stages_of e)) (length-reverse (stages_of e) ∙ as_many) drawn
+        none_early_here : early_lot (reverse (stages_of e)) e.lots ≡ None
+        none_early_here = none_early e poll own (reverse (stages_of e)) (length-reverse (stages_of e) ∙ as_many) drawn
 
-      -- which is declared
-      declared_count : is_finished (due_of e) ≡ true → HasCount e true true
-      declared_count finished =
-          let stages : List Stage = reverse (stages_of e) in
-          let all : Vec Stage = vec_of stages (few_stages contest e.lots (stages_of e) fair_here (right_so_far e poll own)) in
-          let ends : EndsAt contest e.lots stages end.Finished = counted e poll own contested finished in
-          record {
-            ward = record {
-              reading = reading;
-              count = record { stages = all; elected = elected_after contest (reverse stages); end = end.Finished };
-              stages = stages;
-              is_declared = true;
-            };
-            is = record { contest = fair_here; by_lots = record { counted = ends; chosen = refl; drawn = undrawn_here } };
-            ends = tt;
-            shows = record { done = length stages; first = sym (take-length stages); whole = λ _. refl };
-            drawn = none_early_here;
-            elects = λ _. same_elected e poll own contested finished;
-          }
+        -- which is declared
+        declared_count : is_finished (due_of e) ≡ true → HasCount e true true
+        declared_count finished =
+            let stages : List Stage = reverse (stages_of e) in
+            let all : Vec Stage = vec_of stages (few_stages contest e.lots (stages_of e) fair_here (right_so_far e poll own)) in
+            let ends : EndsAt contest e.lots stages end.Finished = counted e poll own contested finished in
+            record {
+              ward = record {
+                reading = reading;
+                count = record { stages = all; elected = elected_after contest (reverse stages); end = end.Finished };
+                stages = stages;
+                is_declared = true;
+              };
+              is = record { contest = fair_here; by_lots = record { counted = ends; chosen = refl; drawn = undrawn_here } };
+              ends = tt;
+              shows = record { done = length stages; first = sym (take-length stages); whole = λ _. refl };
+              drawn = none_early_here;
+              elects = λ _. same_elected e poll own contested finished;
+            }
 
-      -- which isn't declared: the lots for later stages have yet to be drawn, or stages have yet to be carried out
-      sealed_count : HasCount e true false
-      sealed_count =
-          let whole : HasEnd contest e.lots = has_end contest e.lots fair_here (all_tied e poll own e.lots drawn) in
-          let stages : List Stage = reverse whole.stages in
-          let all : Vec Stage = vec_of stages (few_stages contest e.lots whole.stages fair_here whole.right) in
-          let again : whole.stages ≡ reverse stages = sym (reverse-reverse whole.stages) in
-          let only : IsWholeCount contest e.lots whole.stages = whole_count contest e.lots whole.stages whole.why whole.right whole.ended in
-          let begins : IsBeginning (stages_of e) whole.stages = only.begins_each contest.papers (stages_of e) (IsPermutation-refl contest.papers) (right_so_far e poll own) in
-          let ends : EndsAt contest e.lots stages whole.why = record {
-            whole = subst (IsWholeCount contest e.lots) again only;
-            ended = subst (λ (h : History). end_after contest e.lots h ≡ Some whole.why) again whole.ended;
-          } in
-          record {
-            ward = record {
-              reading = reading;
-              count = record { stages = all; elected = elected_after contest (reverse stages); end = whole.why };
-              stages = reverse (stages_of e);
-              is_declared = false;
-            };
-            is = record { contest = fair_here; by_lots = record { counted = ends; chosen = refl; drawn = none_undrawn whole.why (dues_of contest e.lots) e.lots undrawn_here } };
-            ends = whole.may;
-            shows = record { done = length (stages_of e); first = first_of (stages_of e) whole.stages begins; whole = λ declared. absurd (cc) };
-            drawn = none_early_here;
-            elects = λ declared. absurd (cc);
-          }
+        -- which isn't declared: the lots for later stages have yet to be drawn, or stages have yet to be carried out
+        sealed_count : HasCount e true false
+        sealed_count =
+            let whole : HasEnd contest e.lots = has_end contest e.lots fair_here (all_tied e poll own e.lots drawn) in
+            let stages : List Stage = reverse whole.stages in
+            let all : Vec Stage = vec_of stages (few_stages contest e.lots whole.stages fair_here whole.right) in
+            let again : whole.stages ≡ reverse stages = sym (reverse-reverse whole.stages) in
+            let only : IsWholeCount contest e.lots whole.stages = whole_count contest e.lots whole.stages whole.why whole.right whole.ended in
+            let begins : IsBeginning (stages_of e) whole.stages = only.begins_each contest.papers (stages_of e) (IsPermutation-refl contest.papers) (right_so_far e poll own) in
+            let ends : EndsAt contest e.lots stages whole.why = record {
+              whole = subst (IsWholeCount contest e.lots) again only;
+              ended = subst (λ (h : History). end_after contest e.lots h ≡ Some whole.why) again whole.ended;
+            } in
+            record {
+              ward = record {
+                reading = reading;
+                count = record { stages = all; elected = elected_after contest (reverse stages); end = whole.why };
+                stages = reverse (stages_of e);
+                is_declared = false;
+              };
+              is = record { contest = fair_here; by_lots = record { counted = ends; chosen = refl; drawn = none_undrawn whole.why (dues_of contest e.lots) e.lots undrawn_here } };
+              ends = whole.may;
+              shows = record { done = length (stages_of e); first = first_of (stages_of e) whole.stages begins; whole = λ declared. absurd (cc) };
+              drawn = none_early_here;
+              elects = λ declared. absurd (cc);
+            }
 
     pub count_of : (declared : Bool) → (declared ≡ true → is_finished (due_of e) ≡ true) → (has_count e ≡ true → IsContest (contest_of e))
         → (has_count e ≡ true → list_all (is_drawn_for e) e.lots ≡ true) → (has_count e ≡ true → length (stages_of e) ≡ e.ward.done) → AreSmall e.lots

@@ -121,7 +121,8 @@ module _
         let small = own_lots_small s w is there (columns s w.number is) fine in
         let right = counted_right s w is there in
         let back = read_back _ _ _ (can w there) in
-        let counted = count_of e own back.reading (is_declared w.phase) (declared_is_finished e sealed right) fine.counted (λ contested. (drawn_and_ended e sealed right contested).0) (as_many_done e sealed right) small in
+        let counted = count_of e own back.reading (is_declared w.phase) (declared_is_finished e sealed right) fine.counted
+        (λ contested. (drawn_and_ended e sealed right contested).0) (as_many_done e sealed right) small in
         made_of title s w sealed back own (no_stages e sealed right) counted
 
     -- a ward that isn't sealed
