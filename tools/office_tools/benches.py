@@ -1,8 +1,9 @@
 """What the program costs."""
-import collections, contextlib, json, os, random, resource, select
+import collections, contextlib, itertools, json, os, random, re, resource, select
 
 from office_tools.election import COPYING, ELECTION, END, READS, REPLAY, SCRIPTED, Order, keying, marks_of, ward_orders
-from office_tools.office import HERE, TOWN, Office, Table, needs, program as program_of, ran, request, side_by_side, status, timed, wrong_if
+from office_tools.office import HERE, ROOT, TOWN, Office, Table, needs, program as program_of
+from office_tools.office import ran, request, side_by_side, status, timed, wrong_if
 from office_tools.recount import blt, written
 
 CANDIDATES, SEATS, BATCH, RUNS = 10, 4, 500, 5
@@ -215,3 +216,27 @@ def bench_second(room, rounds=200, papers=100000):
     Table("A keying of five papers", "without a second record", "with one").row("takes", f"{alone:.1f} ms", f"{recorded:.1f} ms")
     recovery(room, papers)
     wrong_if(recorded > RECORDED * alone, f"with a second record a keying takes more than {RECORDED} times as long")
+
+# The modules that the check makes of one function; what comes before them in a file's name is the function's path.
+OF_FUNCTION = ("Answers", "Code", "Given", "Goals", "Invariants", "Key", "Kinds", "Layout", "Lts", "Met", "Named", "Proof", "Reads", "Statement",
+               "Symbol", "TheImpl", "TheLink", "TheVariants", "Tie")
+
+def proved_path(stem):
+    """Returns the path of the function, type or file of proofs that a checked module is of."""
+    path = re.sub(r"^.*?-(proofs|specs)\.((contracts|declared)\.)?", "", stem).split(".")
+    return ".".join(itertools.takewhile(lambda part: part not in OF_FUNCTION, path))
+
+def bench_proofs(crate, most=40):
+    """Says which proofs of a crate took longest, by what its last check kept, and prints a table.
+
+    First type `rt check --jobs 1` in the crate's folder, with no out/ there (`--test` for a crate of tests): it writes a file for each module
+    that it has checked, and the time between two files is that of the second one's module. MOST is how many rows the table has. A pause of
+    more than two minutes is left out, since the check then began anew.
+    """
+    kept = sorted((path.stat().st_mtime, path.stem) for path in (ROOT / "crates" / crate / "out/incremental").rglob("*.oantt"))
+    wrong_if(len(kept) < 2, f"no check of {crate} kept anything: type rt check --jobs 1 in crates/{crate}")
+    found = collections.Counter()
+    for (before, _), (after, stem) in itertools.pairwise(kept):
+        found[proved_path(stem)] += after - before if after - before < 120 else 0
+    table = Table(f"{crate}: {len(found)} parts", f"Seconds, {sum(found.values()):.0f} in all")
+    table.rows({f"`{path}`": f"{seconds:.1f}" for path, seconds in found.most_common(most)})
