@@ -229,7 +229,9 @@ def compare_read(content):
     try:
         count = Count(Ballots(content))
         is_among = not count.waits or count.waits[0] not in count.lots
-        if is_among and (count.waits or not count.lots or not count.is_contested):
+        # While a lot is waited for, those for later stages have yet to be drawn.
+        undrawn = [stage for stage in count.lots if not count.waits or stage < count.waits[0]]
+        if is_among and not (undrawn and count.is_contested):
             texts = {"": count.sheet(), "--results": count.results(), "--ballots": written(count.ballots.lines())}
             compare_counted(content, ["--count", "-"], count, texts, {})
             return "counted"
