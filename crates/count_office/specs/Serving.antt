@@ -39,7 +39,7 @@ use Rattle.server.specs.declared.serve_error.ServeError.{ServeError}
 use Rattle.server.specs.declared.serve_error.ServeError.TheVariants as ended
 use Rattle.server.specs.declared.server_settings.FileNumbers.{FileNumbers}
 use Rattle.count_office.specs.Hosts.{CodeFiles, IsReadAs}
-use Rattle.count_office.specs.Records.{has_failed}
+use Rattle.count_office.specs.Records.{has_failed, left_here}
 use Rattle.count_office.specs.declared.gate.GateFiles.{GateFiles}
 use Rattle.count_office.specs.declared.public.PublicTexts.{PublicTexts}
 use Rattle.count_office.specs.declared.serving.Serving.{Serving}
@@ -215,14 +215,14 @@ ServesOrder Tells Quiet status serving codes_at file recorded stream view before
 
 -- ---- with or without the file of a second record
 
--- The order to serve with a second record in a file on this machine, about whose bytes nothing is known. The record couldn't be begun: no connection was accepted, and
--- the office was only read. Or it was begun, and the order was performed with it, on the office as it was read.
-abbrev pub ServesInRecord : {L S R : Type 0} → (R → Bool) → (List ℕ → ℕ → ℕ → Type 0) → Type 0 → ℕ → Serving → CodeFiles → Option FileNumbers → Stream L → (Held S → State)
-    → (ℕ → NetworkEntry L) → (ℕ → NetworkEntry L) → Held S → Held S → Type 0
-ServesInRecord {L} {S} {R} has_failed Tells Quiet status serving codes_at file stream state_of before later old new =
-    ((later ≡ before) × OnlyReads (state_of old) (state_of new))
+-- The order to serve with a second record in a file, given which texts a stop may leave of a record, and whether it failed. The record couldn't be begun: no connection was
+-- accepted, the office was only read, and the status isn't 0. Or it was begun, and the order was performed with it, on the office as it was read.
+abbrev pub ServesInRecord : {L S R : Type 0} → (R → List ℕ → Type 0) → (R → Bool) → (List ℕ → ℕ → ℕ → Type 0) → Type 0 → ℕ → Serving → CodeFiles → Option FileNumbers → Stream L
+    → (Held S → State) → (ℕ → NetworkEntry L) → (ℕ → NetworkEntry L) → Held S → Held S → Type 0
+ServesInRecord {L} {S} {R} found has_failed Tells Quiet status serving codes_at file stream state_of before later old new =
+    ((later ≡ before) × OnlyReads (state_of old) (state_of new) × (status ≢ 0))
     ⊎ ((read : Held S) × (recorder : R) × (recorder_later : R) × OnlyReads (state_of old) (state_of read) × (has_failed recorder ≡ false)
-    × ServesOrder Tells Quiet status serving codes_at file true stream (served_view state_of (λ its text. ⊥) has_failed) before later read new recorder recorder_later)
+    × ServesOrder Tells Quiet status serving codes_at file true stream (served_view state_of found has_failed) before later read new recorder recorder_later)
 
 -- The order to serve, with the file of a second record or without one.
 abbrev pub ServesWith : {Path L S : Type 0} → Option Path → (List ℕ → ℕ → ℕ → Type 0) → Type 0 → ℕ → Serving → CodeFiles → Option FileNumbers → Stream L → (Held S → State)
@@ -230,7 +230,7 @@ abbrev pub ServesWith : {Path L S : Type 0} → Option Path → (List ℕ → �
 ServesWith None Tells Quiet status serving codes_at file stream state_of before later old new =
     ServesOrder Tells Quiet status serving codes_at file false stream (view_without_record state_of) before later old new (record {}) (record {})
 ServesWith (Some path) Tells Quiet status serving codes_at file stream state_of before later old new =
-    ServesInRecord has_failed Tells Quiet status serving codes_at file stream state_of before later old new
+    ServesInRecord left_here has_failed Tells Quiet status serving codes_at file stream state_of before later old new
 
 -- ---- an office that takes the place of another
 

@@ -18,14 +18,9 @@
 
 ghost use Rattle.std.specs.Prelude.{◌≡◌, ◌+◌, ◌-◌, ◌^◌, ◌<◌, ℕ, List, IfSome, None, Some};
 ghost use Rattle.std.specs.Borrow.{Bor};
-ghost use Rattle.sqlite.specs.Effect.{Database};
 ghost use Rattle.sqlite.specs.Held.{state};
-ghost use Rattle.sqlite.specs.State.{HasCleanDisk};
-ghost use Rattle.register.specs.Offices.{OfficeState};
-ghost use Rattle.tables.specs.Contents.{RestsAt};
 ghost use Rattle.tables.specs.Reading.{OnlyReads};
-ghost use Rattle.store.specs.Openings.{IsLeftAt};
-ghost use Rattle.desk.specs.Journals.{IsJournalTold, IsToldElsewhere};
+ghost use Rattle.desk.specs.Journals.{IsJournalTold};
 ghost use Rattle.desk.specs.Mends.{IsMendPage};
 ghost use Rattle.desk.specs.declared.orders.MendOrder.{MendOrder};
 ghost use Rattle.desk.specs.declared.orders.PublishOrder.{PublishOrder};
@@ -33,7 +28,7 @@ ghost use Rattle.desk.specs.Pages.{IsErrorTold, Tells, outputs_of};
 ghost use Rattle.desk.specs.Publications.{IsPublishTold};
 ghost use Rattle.desk.specs.Seconds.{IsSecondPage};
 ghost use Rattle.connections.specs.Streams.{stream_of};
-ghost use Rattle.count_office.specs.Done.{IsDoneWith};
+ghost use Rattle.count_office.specs.Done.{IsDoneWith, IsReadingTold};
 ghost use Rattle.count_office.specs.Serving.{ServesWith};
 ghost use Rattle.sqlite_wal.specs.Reads.{AreClean};
 ghost use Rattle.sqlite.specs.Closing.{IsCopied};
@@ -215,18 +210,18 @@ fn dispatch_order<H: Host, S: Alter, O: Sink, E: Sink>(
     requires out { O.failed out.old < 2 ^ 64 - 1 }
     requires err { E.failed err.old < 2 ^ 64 - 1 }
     ensures performs { (task : Task) → order.now ≡ Order.Perform task → IsDoneWith place.entry.second (state S.Store) task result.0 conn result.1 }
-    ensures journals { order.now ≡ Order.Journal → (let outputs = outputs_of O.taken O.failed E.taken E.failed in Tells (outputs out.old err.old) (outputs out.new err.new) result.0
-        (λ _ page. HasCleanDisk (state S.Store result.1) → ((db : Database) → RestsAt db (state S.Store conn) → (s : OfficeState) → IsLeftAt s db → IsJournalTold s page)
-        × IsToldElsewhere page (state S.Store conn) (state S.Store result.1))) }
+    ensures journals { order.now ≡ Order.Journal → (let outputs = outputs_of O.taken O.failed E.taken E.failed in
+        Tells (outputs out.old err.old) (outputs out.new err.new) result.0 (λ _ page. IsReadingTold IsJournalTold page (state S.Store conn) (state S.Store result.1)))
+        × OnlyReads (state S.Store conn) (state S.Store result.1) }
     ensures mends { (asked : MendOrder) → order.now ≡ Order.Mend asked → (let outputs = outputs_of O.taken O.failed E.taken E.failed in
-        Tells (outputs out.old err.old) (outputs out.new err.new) result.0 (λ _ page. HasCleanDisk (state S.Store result.1) → (db : Database) → RestsAt db (state S.Store conn)
-        → (s : OfficeState) → IsLeftAt s db → IsMendPage s asked page)) }
+        Tells (outputs out.old err.old) (outputs out.new err.new) result.0 (λ _ page. IsReadingTold (λ s. IsMendPage s asked) page (state S.Store conn) (state S.Store result.1)))
+        × OnlyReads (state S.Store conn) (state S.Store result.1) }
     ensures publishes { (asked : PublishOrder) → order.now ≡ Order.Publish asked → (let outputs = outputs_of O.taken O.failed E.taken E.failed in
-        Tells (outputs out.old err.old) (outputs out.new err.new) result.0 (λ _ page. HasCleanDisk (state S.Store result.1) → (db : Database) → RestsAt db (state S.Store conn)
-        → (s : OfficeState) → IsLeftAt s db → IsPublishTold s asked page)) }
+        Tells (outputs out.old err.old) (outputs out.new err.new) result.0 (λ _ page. IsReadingTold (λ s. IsPublishTold s asked) page (state S.Store conn) (state S.Store result.1)))
+        × OnlyReads (state S.Store conn) (state S.Store result.1) }
     ensures seconds { (path : Bor (List ℕ)) → order.now ≡ Order.Second path → (let outputs = outputs_of O.taken O.failed E.taken E.failed in
-        Tells (outputs out.old err.old) (outputs out.new err.new) result.0 (λ _ page. HasCleanDisk (state S.Store result.1) → (db : Database) → RestsAt db (state S.Store conn)
-        → (s : OfficeState) → IsLeftAt s db → IsSecondPage s path.now page)) }
+        Tells (outputs out.old err.old) (outputs out.new err.new) result.0 (λ _ page. IsReadingTold (λ s. IsSecondPage s path.now) page (state S.Store conn) (state S.Store result.1)))
+        × OnlyReads (state S.Store conn) (state S.Store result.1) }
     ensures serves { (serving : Serving) → order.now ≡ Order.Serve serving.port serving.connections serving.origin serving.codes serving.public
         → (out.new ≡ out.old) × ServesWith place.entry.second (IsErrorTold E.taken E.failed err.old err.new) (err.new ≡ err.old) result.0 serving (H.codes_at host.old) (H.file host.old)
         (stream_of H.Sockets.Stream.held H.Sockets.Stream.taken H.Sockets.Stream.failed) (state S.Store) (H.known host.old) (H.known host.new) conn result.1 }
@@ -294,8 +289,7 @@ fn journal<S: Alter, O: Sink, E: Sink>(
     requires out { O.failed out.old < 2 ^ 64 - 1 }
     requires err { E.failed err.old < 2 ^ 64 - 1 }
     ensures told { let outputs = outputs_of O.taken O.failed E.taken E.failed in Tells (outputs out.old err.old) (outputs out.new err.new) result.0
-        (λ _ page. HasCleanDisk (state S.Store result.1) → ((db : Database) → RestsAt db (state S.Store conn) → (s : OfficeState) → IsLeftAt s db → IsJournalTold s page)
-        × IsToldElsewhere page (state S.Store conn) (state S.Store result.1)) }
+        (λ _ page. IsReadingTold IsJournalTold page (state S.Store conn) (state S.Store result.1)) }
     ensures reads { OnlyReads (state S.Store conn) (state S.Store result.1) }
 {
     match Connection::open_in_memory(rt.alloc()) {

@@ -2,18 +2,13 @@
 //! that is being served.
 
 ghost use Rattle.std.specs.Prelude.{◌≡◌, ◌-◌, ◌^◌, ◌<◌, IfOk};
-ghost use Rattle.sqlite.specs.Effect.{Database};
 ghost use Rattle.sqlite.specs.Held.{state};
-ghost use Rattle.sqlite.specs.State.{HasCleanDisk};
 ghost use Rattle.sqlite.specs.Steps.{IsEmpty, over_memory};
-ghost use Rattle.register.specs.Offices.{OfficeState};
-ghost use Rattle.tables.specs.Contents.{RestsAt};
 ghost use Rattle.tables.specs.Reading.{OnlyReads};
-ghost use Rattle.store.specs.Openings.{IsLeftAt};
 ghost use Rattle.office.specs.Answers.{IsReadAt, WhenOpenAt};
 ghost use Rattle.desk.specs.Mends.{IsMendPage};
 ghost use Rattle.desk.specs.Pages.{Tells, outputs_of};
-ghost use Rattle.count_office.specs.Done.{EndsCopy};
+ghost use Rattle.count_office.specs.Done.{EndsCopy, IsReadingTold};
 
 use crate::copies::{failure_of, finish, why_not_begun};
 use crate::is_busy;
@@ -188,7 +183,7 @@ pub fn mend<S: Alter, O: Sink, E: Sink>(
     requires out { O.failed out.old < 2 ^ 64 - 1 }
     requires err { E.failed err.old < 2 ^ 64 - 1 }
     ensures told { let outputs = outputs_of O.taken O.failed E.taken E.failed in Tells (outputs out.old err.old) (outputs out.new err.new) result.0
-        (λ _ page. HasCleanDisk (state S.Store result.1) → (db : Database) → RestsAt db (state S.Store conn) → (s : OfficeState) → IsLeftAt s db → IsMendPage s asked.now page) }
+        (λ _ page. IsReadingTold (λ s. IsMendPage s asked.now) page (state S.Store conn) (state S.Store result.1)) }
     ensures reads { OnlyReads (state S.Store conn) (state S.Store result.1) }
 {
     match Office::open_from(old.rt.alloc(), conn) {

@@ -1,16 +1,12 @@
 //! Publishes the results of an office in a new folder on this machine: an office that an order opened, or one that is being served.
 
 ghost use Rattle.std.specs.Prelude.{◌-◌, ◌^◌, ◌<◌};
-ghost use Rattle.sqlite.specs.Effect.{Database};
 ghost use Rattle.sqlite.specs.Held.{state};
-ghost use Rattle.sqlite.specs.State.{HasCleanDisk};
-ghost use Rattle.register.specs.Offices.{OfficeState};
-ghost use Rattle.tables.specs.Contents.{RestsAt};
 ghost use Rattle.tables.specs.Reading.{OnlyReads};
-ghost use Rattle.store.specs.Openings.{IsLeftAt};
 ghost use Rattle.office.specs.Answers.{IsReadAt, WhenOpenAt};
 ghost use Rattle.desk.specs.Pages.{Tells, outputs_of};
 ghost use Rattle.desk.specs.Publications.{IsPublishTold};
+ghost use Rattle.count_office.specs.Done.{IsReadingTold};
 
 use crate::new_folder::NewFolder;
 use desk::{Failure, PublishOrder, publish_open, tell_failure};
@@ -53,7 +49,7 @@ pub fn publish<S: Alter, O: Sink, E: Sink>(
     requires out { O.failed out.old < 2 ^ 64 - 1 }
     requires err { E.failed err.old < 2 ^ 64 - 1 }
     ensures told { let outputs = outputs_of O.taken O.failed E.taken E.failed in Tells (outputs out.old err.old) (outputs out.new err.new) result.0
-        (λ _ page. HasCleanDisk (state S.Store result.1) → (db : Database) → RestsAt db (state S.Store conn) → (s : OfficeState) → IsLeftAt s db → IsPublishTold s asked.entry page) }
+        (λ _ page. IsReadingTold (λ s. IsPublishTold s asked.entry) page (state S.Store conn) (state S.Store result.1)) }
     ensures reads { OnlyReads (state S.Store conn) (state S.Store result.1) }
 {
     match Office::open_from(rt.alloc(), conn) {

@@ -3,7 +3,8 @@
 //!
 //! Nothing is known about what a disk really keeps; the contracts of `desk` say what is promised if it keeps what was flushed.
 
-ghost use Rattle.std.specs.Prelude.{None, ⊤};
+ghost use Rattle.std.specs.Prelude.{⊤};
+ghost use Rattle.count_office.specs.Records.{kept_here};
 
 use crate::codes_file::write_new;
 use crate::path_note::flush_folder;
@@ -165,7 +166,7 @@ impl<'a> SecondFile<'a> {
 }
 
 impl DurableSink for SecondFile<'_> {
-    ghost kept = { λ _. None };
+    ghost kept = { λ file. kept_here file };
 
     ghost broken = { λ _. ⊤ };
 

@@ -1,9 +1,10 @@
 //! An order that is performed alone, on an office that has a second record: each request that the office accepts is appended to the
 //! record's file, and flushed, before its reply is printed.
 
-ghost use Rattle.std.specs.Prelude.{◌≡◌, ◌-◌, ◌^◌, ◌<◌, OnOk};
+ghost use Rattle.std.specs.Prelude.{◌≡◌, ◌≢◌, ◌-◌, ◌^◌, ◌<◌, IfErr, OnOk};
 ghost use Rattle.sqlite.specs.Held.{state};
 ghost use Rattle.tables.specs.Reading.{OnlyReads};
+ghost use Rattle.desk.specs.Pages.{IsErrorTold, failed};
 ghost use Rattle.count_office.specs.Done.{IsDoneRecorded};
 
 use crate::notices::{tell_second_unusable, warn_if_on_one_disk};
@@ -28,6 +29,7 @@ pub struct RecordedTask<'a> {
 /// Prints fault 112, followed by a line that says why the file of a second record can't be used. Returns the status.
 pub fn refuse_second<E: Sink>(rt: &HostRuntime, path: &str, why: SecondFault, err: &mut E) -> u8
     requires { E.failed err.old < 2 ^ 64 - 1 }
+    ensures { IsErrorTold E.taken E.failed err.old err.new (failed Failure.SecondRecord).err 3 result }
 {
     let status = tell_failure(Failure::SecondRecord, err);
     tell_second_unusable(rt, path, why);
@@ -37,6 +39,7 @@ pub fn refuse_second<E: Sink>(rt: &HostRuntime, path: &str, why: SecondFault, er
 /// Prints how the office and a second record differ, and returns the status.
 fn tell_apart<E: Sink>(errors: &[u8], status: u8, err: &mut E) -> u8
     requires { E.failed err.old < 2 ^ 64 - 1 }
+    ensures { IsErrorTold E.taken E.failed err.old err.new errors.now status result }
 {
     match put_all(err, errors) {
         Ok(()) => status,
@@ -55,6 +58,7 @@ fn open_record<'a, S: Alter, E: Sink>(
     requires { E.failed err.old < 2 ^ 64 - 1 }
     ensures reads { OnlyReads (state S.Store conn) (state S.Store result.1) }
     ensures quiet { OnOk result.0 (err.new ≡ err.old) }
+    ensures refused { IfErr result.0 (λ status. status ≢ 0) }
 {
     let rt = paths.rt;
     let file = match SecondFile::open(rt, path) {

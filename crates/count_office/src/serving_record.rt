@@ -1,11 +1,11 @@
 //! The order to serve, with or without a second record. The record's file is new, and begins with the office's journal.
 
-ghost use Rattle.std.specs.Prelude.{◌≡◌, ◌-◌, ◌^◌, ◌<◌, IfOk, false};
+ghost use Rattle.std.specs.Prelude.{◌≡◌, ◌≢◌, ◌-◌, ◌^◌, ◌<◌, IfErr, IfOk, false};
 ghost use Rattle.sqlite.specs.Held.{state};
 ghost use Rattle.tables.specs.Reading.{OnlyReads};
 ghost use Rattle.connections.specs.Streams.{stream_of};
 ghost use Rattle.desk.specs.Pages.{IsErrorTold};
-ghost use Rattle.count_office.specs.Records.{has_failed};
+ghost use Rattle.count_office.specs.Records.{has_failed, left_here};
 ghost use Rattle.count_office.specs.Serving.{ServesInRecord, ServesWith};
 
 use crate::host::Host;
@@ -45,7 +45,8 @@ fn beginning_of<S: Alter>(
     rt: &HostRuntime,
     conn: Connection<S>,
 ) -> (Result<Vec<u8>, u8>, Connection<S>)
-    ensures { OnlyReads (state S.Store conn) (state S.Store result.1) }
+    ensures reads { OnlyReads (state S.Store conn) (state S.Store result.1) }
+    ensures refused { IfErr result.0 (λ status. status ≢ 0) }
 {
     let mut text = Vec::new(rt.alloc());
     let mut stderr = Counted::new(rt.stderr());
@@ -67,9 +68,10 @@ fn beginning_of<S: Alter>(
 fn begin<'a, S: Alter>(
     asked: RecordedPlace<'a>,
     conn: Connection<S>,
-) -> (Result<TimedRecord<'a>, u8>, Connection<S>)
+) -> (Result<TimedRecord<'a, SecondFile<'a>>, u8>, Connection<S>)
     ensures reads { OnlyReads (state S.Store conn) (state S.Store result.1) }
     ensures whole { IfOk result.0 (λ its. has_failed its ≡ false) }
+    ensures refused { IfErr result.0 (λ status. status ≢ 0) }
 {
     let RecordedPlace { place, path } = asked;
     let rt = place.rt;
@@ -97,7 +99,7 @@ fn serve_with_record<H: Host, S: Alter, E: Sink>(
     err: &mut E,
 ) -> (u8, Connection<S>)
     requires { E.failed err.old < 2 ^ 64 - 1 }
-    ensures { ServesInRecord has_failed (IsErrorTold E.taken E.failed err.old err.new) (err.new ≡ err.old) result.0 serving.entry (H.codes_at host.old) (H.file host.old)
+    ensures { ServesInRecord left_here has_failed (IsErrorTold E.taken E.failed err.old err.new) (err.new ≡ err.old) result.0 serving.entry (H.codes_at host.old) (H.file host.old)
         (stream_of H.Sockets.Stream.held H.Sockets.Stream.taken H.Sockets.Stream.failed) (state S.Store) (H.known host.old) (H.known host.new) conn result.1 }
 {
     let RecordedPlace { place, path } = asked;

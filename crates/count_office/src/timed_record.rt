@@ -1,12 +1,12 @@
 //! The second record of an office on this machine: above the line of each request, a comment says when the office accepted it, and who
 //! sent it.
 
-ghost use Rattle.std.specs.Prelude.{◌≡◌, false, true};
-ghost use Rattle.count_office.specs.Records.{has_failed};
+ghost use Rattle.std.specs.Prelude.{◌≡◌, IfOk, false, string_bytes, true};
+ghost use Rattle.desk.specs.Records.{Leaves};
+ghost use Rattle.count_office.specs.Records.{IsComment, file_of, has_failed, sender_text};
 
 use crate::notices::tell_second_failed;
-use crate::second_file::SecondFile;
-use desk::{Recorder, ScriptRecord};
+use desk::{DurableSink, Recorder, ScriptRecord};
 use register::Request;
 use std::alloc::{AllocError, Global};
 use std::time::{SystemTime, UNIX_EPOCH};
@@ -35,8 +35,11 @@ pub fn time_of_day(rt: &HostRuntime) -> Result<String, AllocError> {
     clock_text(alloc, since.as_secs())
 }
 
+#[tactic(auto, unfolding(crate::specs::Records::sender_text))]
 /// Returns the name of the sender of a request.
-fn sender_of(alloc: Global, actor: u32) -> Result<String, AllocError> {
+fn sender_of(alloc: Global, actor: u32) -> Result<String, AllocError>
+    ensures { IfOk result (λ text. string_bytes text ≡ sender_text actor) }
+{
     if actor == 0 {
         String::from_str(alloc, "the office")
     } else {
@@ -45,7 +48,9 @@ fn sender_of(alloc: Global, actor: u32) -> Result<String, AllocError> {
 }
 
 /// Returns the comment for a request that is recorded now.
-fn comment_now(rt: &HostRuntime, actor: u32) -> Result<String, AllocError> {
+fn comment_now(rt: &HostRuntime, actor: u32) -> Result<String, AllocError>
+    ensures { IfOk result (λ text. IsComment actor (string_bytes text)) }
+{
     let time = time_of_day(rt)?;
     let sender = sender_of(rt.alloc(), actor)?;
     if time.is_empty() {
@@ -54,18 +59,19 @@ fn comment_now(rt: &HostRuntime, actor: u32) -> Result<String, AllocError> {
     format!(in rt.alloc(); "{}, {}", time.as_str(), sender.as_str())
 }
 
-/// A second record in a file on this machine. Nothing is known about the file's bytes.
+/// A second record in a file at a path. A stop leaves of it what it leaves of that file.
 #[derive(Drop)]
-pub struct TimedRecord<'a> {
+pub struct TimedRecord<'a, W> {
     rt: &'a HostRuntime,
     path: &'a str,
-    script: ScriptRecord<SecondFile<'a>>,
+    script: ScriptRecord<W>,
 }
 
-impl<'a> TimedRecord<'a> {
+impl<'a, W: DurableSink> TimedRecord<'a, W> {
     /// Returns a record that continues the file at a path.
-    pub fn new(rt: &'a HostRuntime, path: &'a str, file: SecondFile<'a>) -> TimedRecord<'a>
-        ensures { has_failed result ≡ false }
+    pub fn new(rt: &'a HostRuntime, path: &'a str, file: W) -> TimedRecord<'a, W>
+        ensures file { file_of result ≡ file }
+        ensures unfailed { has_failed result ≡ false }
     {
         TimedRecord {
             rt,
@@ -82,10 +88,10 @@ impl<'a> TimedRecord<'a> {
     }
 }
 
-impl Recorder for TimedRecord<'_> {
+impl<W: DurableSink> Recorder for TimedRecord<'_, W> {
     ghost records = { λ _. true };
 
-    ghost found = { λ _ _. ⊥ };
+    ghost found = { λ timed. Leaves (W.kept (file_of timed)) };
 
     ghost failed = { λ timed. has_failed timed };
 

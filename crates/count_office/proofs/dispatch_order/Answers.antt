@@ -1,12 +1,7 @@
 -- Proof that `dispatch_order` meets its contract for the order to serve, whose words are those of the serving, for the order to mend, for the order to publish, and for the order to compare.
 use Rattle.std.proofs.Common.{◌≡◌, ◌∙◌, ℕ, List, ap, refl, subst, sym}
 use Rattle.std.specs.Borrow.{Bor}
-use Rattle.sqlite.specs.Effect.{Database}
 use Rattle.sqlite.specs.Held.{state}
-use Rattle.sqlite.specs.State.{HasCleanDisk}
-use Rattle.register.specs.Offices.{OfficeState}
-use Rattle.tables.specs.Contents.{RestsAt}
-use Rattle.store.specs.Openings.{IsLeftAt}
 use Rattle.connections.specs.Streams.{stream_of}
 use Rattle.desk.specs.Mends.{IsMendPage}
 use Rattle.desk.specs.Pages.{IsErrorTold, Tells, outputs_of}
@@ -16,6 +11,7 @@ use Rattle.desk.specs.declared.orders.MendOrder.{MendOrder}
 use Rattle.desk.specs.declared.orders.Order.{Order}
 use Rattle.desk.specs.declared.orders.Order.TheVariants as order
 use Rattle.desk.specs.declared.orders.PublishOrder.{PublishOrder}
+use Rattle.count_office.specs.Done.{IsReadingTold}
 use Rattle.count_office.specs.Serving.{ServesWith}
 use Rattle.count_office.specs.declared.serving.Serving.{Serving}
 use Rattle.count_office.proofs.dispatch_order.Goals as goal
@@ -45,10 +41,12 @@ returns-in-Serve-clause-serves g c = λ serving is.
 
 pub returns-in-Mend-clause-mends : goal.returns-in-Mend-clause-mends
 returns-in-Mend-clause-mends g c = λ asked is.
-    let outputs = outputs_of g.O.Sink.taken g.O.Sink.failed g.E.Sink.taken g.E.Sink.failed in
-    subst (λ (m : MendOrder). Tells (outputs c.args.out.now c.args.err.now) (outputs c.mend.new.out c.mend.new.err) c.mend.result.0
-    (λ _ page. HasCleanDisk (state g.S.Store c.mend.result.1) → (db : Database) → RestsAt db (state g.S.Store c.args.conn) → (s : OfficeState) → IsLeftAt s db → IsMendPage s m page))
-    (cc) c.mend.ensures.told
+    let outputs = outputs_of g.O.Sink.taken g.O.Sink.failed g.E.Sink.taken g.E.Sink.failed in (
+      subst (λ (m : MendOrder). Tells (outputs c.args.out.now c.args.err.now) (outputs c.mend.new.out c.mend.new.err) c.mend.result.0
+          (λ _ page. IsReadingTold (λ s. IsMendPage s m) page (state g.S.Store c.args.conn) (state g.S.Store c.mend.result.1)))
+          (cc) c.mend.ensures.told,
+      c.mend.ensures.reads,
+    )
 
 -- the path of an order to compare the office with a second record
 path_in : Bor (List ℕ) → Order → Bor (List ℕ)
@@ -61,10 +59,12 @@ same_path one other same = ap (path_in one) same
 
 pub returns-in-Second-clause-seconds : goal.returns-in-Second-clause-seconds
 returns-in-Second-clause-seconds g c = λ path is.
-    let outputs = outputs_of g.O.Sink.taken g.O.Sink.failed g.E.Sink.taken g.E.Sink.failed in
-    subst (λ (p : Bor (List ℕ)). Tells (outputs c.args.out.now c.args.err.now) (outputs c.second.new.out c.second.new.err) c.second.result.0
-    (λ _ page. HasCleanDisk (state g.S.Store c.second.result.1) → (db : Database) → RestsAt db (state g.S.Store c.args.conn) → (s : OfficeState) → IsLeftAt s db → IsSecondPage s p.now page))
-    (same_path c.in-Second.path path (sym c.in-Second.is ∙ is)) c.second.ensures.told
+    let outputs = outputs_of g.O.Sink.taken g.O.Sink.failed g.E.Sink.taken g.E.Sink.failed in (
+      subst (λ (p : Bor (List ℕ)). Tells (outputs c.args.out.now c.args.err.now) (outputs c.second.new.out c.second.new.err) c.second.result.0
+          (λ _ page. IsReadingTold (λ s. IsSecondPage s p.now) page (state g.S.Store c.args.conn) (state g.S.Store c.second.result.1)))
+          (same_path c.in-Second.path path (sym c.in-Second.is ∙ is)) c.second.ensures.told,
+      c.second.ensures.reads,
+    )
 
 -- the words of an order to publish
 publishing_in : PublishOrder → Order → PublishOrder
@@ -77,7 +77,9 @@ same_publishing one other same = ap (publishing_in one) same
 
 pub returns-in-Publish-clause-publishes : goal.returns-in-Publish-clause-publishes
 returns-in-Publish-clause-publishes g c = λ asked is.
-    let outputs = outputs_of g.O.Sink.taken g.O.Sink.failed g.E.Sink.taken g.E.Sink.failed in
-    subst (λ (p : PublishOrder). Tells (outputs c.args.out.now c.args.err.now) (outputs c.publish.new.out c.publish.new.err) c.publish.result.0
-    (λ _ page. HasCleanDisk (state g.S.Store c.publish.result.1) → (db : Database) → RestsAt db (state g.S.Store c.args.conn) → (s : OfficeState) → IsLeftAt s db → IsPublishTold s p page))
-    (same_publishing c.in-Publish.asked asked (sym c.in-Publish.is ∙ is)) c.publish.ensures.told
+    let outputs = outputs_of g.O.Sink.taken g.O.Sink.failed g.E.Sink.taken g.E.Sink.failed in (
+      subst (λ (p : PublishOrder). Tells (outputs c.args.out.now c.args.err.now) (outputs c.publish.new.out c.publish.new.err) c.publish.result.0
+          (λ _ page. IsReadingTold (λ s. IsPublishTold s p) page (state g.S.Store c.args.conn) (state g.S.Store c.publish.result.1)))
+          (same_publishing c.in-Publish.asked asked (sym c.in-Publish.is ∙ is)) c.publish.ensures.told,
+      c.publish.ensures.reads,
+    )

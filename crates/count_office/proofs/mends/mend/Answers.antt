@@ -1,15 +1,12 @@
--- Proof that `mend` meets its contract: the office was opened at the state that a stop left, and was only read.
+-- Proof that `mend` meets its contract: the office was opened at the state that a stop left, and was only read; or it wasn't opened, and the page is the fault.
 use Rattle.std.proofs.Common.{inl, inr, refl, subst, sym}
 use Rattle.sqlite.specs.Held.{state}
 use Rattle.sqlite.specs.State.{HasCleanDisk}
-use Rattle.tables.specs.Contents.{RestsAt}
 use Rattle.tables.specs.Reading.{OnlyReads}
 use Rattle.tables.proofs.ReadLemmas.{only_reads_then}
-use Rattle.sqlite.specs.Effect.{Database}
-use Rattle.register.specs.Offices.{OfficeState}
-use Rattle.store.specs.Openings.{IsLeftAt}
 use Rattle.desk.specs.Mends.{IsMendPage}
 use Rattle.desk.specs.declared.lines.Failure.TheVariants.{Office}
+use Rattle.count_office.specs.Done.{IsReadingTold}
 use Rattle.count_office.proofs.MendLemmas.{mend_failed}
 use Rattle.count_office.proofs.mends.mend.Goals as goal
 
@@ -20,10 +17,12 @@ returns-in-Ok-clause-told g c =
       page = told.page;
       cut = told.cut;
       shown = told.shown;
-      is = λ clean db rests s left.
+      is = λ clean.
           let ended = subst (λ conn. HasCleanDisk (state g.S.Store conn)) c.into_connection.ensures clean in
-          let here = c.in-Ok.ensures.reopens (c.mend_served-status.ensures.reads.clean ended) db rests s left in
-          told.is ended here.is_open s here.at;
+          let opened = c.mend_served-status.ensures.reads.clean ended in (
+            λ db rests s left. let here = c.in-Ok.ensures.reopens opened db rests s left in told.is ended here.is_open s here.at,
+            λ db ours rests none. let held = c.in-Ok.ensures.opened opened db ours rests in absurd (none held.0 held.1),
+          );
     }
 
 pub returns-in-Ok-clause-reads : goal.returns-in-Ok-clause-reads
@@ -35,6 +34,9 @@ returns-in-Ok-clause-reads g c =
 pub returns-in-Err-clause-told : goal.returns-in-Err-clause-told
 returns-in-Err-clause-told g c =
     mend_failed g.O.Sink.taken g.O.Sink.failed g.E.Sink.taken g.E.Sink.failed
-    (λ page. HasCleanDisk (state g.S.Store c.in-Err.conn) → (db : Database) → RestsAt db (state g.S.Store c.args.conn) → (s : OfficeState) → IsLeftAt s db → IsMendPage s c.args.asked.now page)
+    (λ page. IsReadingTold (λ s. IsMendPage s c.args.asked.now) page (state g.S.Store c.args.conn) (state g.S.Store c.in-Err.conn))
     (Office c.in-Err.fault) c.args.out.now c.args.err.now c.tell_failure.new.err c.tell_failure.result
-    (λ clean db rests s left. inl (inr (inr (inr (Office c.in-Err.fault, refl))))) c.tell_failure.ensures
+    (λ clean. (
+      λ db rests s left. inl (inr (inr (inr (Office c.in-Err.fault, refl)))),
+      λ db ours rests none. (c.in-Err.fault, refl, (c.in-Err.ensures.told clean db ours rests, c.in-Err.ensures.fails clean db ours rests)),
+    )) c.tell_failure.ensures
