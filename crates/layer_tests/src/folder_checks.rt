@@ -311,20 +311,19 @@ fn index_of(alloc: Global) -> Result<String, AllocError> {
     index_text(alloc, TITLE, &wards)
 }
 
-/// Returns the files of the folder, with or without ballots, given the ballots and the texts of the tied ward.
-fn files_with(
-    alloc: Global,
-    with_ballots: bool,
-    tied: &str,
-    nine: &OwnTexts,
-) -> Result<Vec<PublishedFile>, Fail> {
-    let (seven, twelve) = (texts_of(alloc, BALLOTS)?, texts_of(alloc, UNCONTESTED)?);
+/// Returns the files of the folder, with or without ballots.
+fn files_of(alloc: Global, with_ballots: bool) -> Result<Vec<PublishedFile>, Fail> {
+    let (seven, nine, twelve) = (
+        texts_of(alloc, BALLOTS)?,
+        texts_of(alloc, TIED)?,
+        texts_of(alloc, UNCONTESTED)?,
+    );
     let fifteen = uncounted_texts(alloc)?;
     let index = index_of(alloc)?;
     let ballots = |text| if with_ballots { Some(text) } else { None };
     let wards = [
         published(7, "Harbour", ballots(BALLOTS), &seven),
-        published(9, "Hill", ballots(tied), nine),
+        published(9, "Hill", ballots(TIED), &nine),
         published(12, "Quay", ballots(UNCONTESTED), &twelve),
         published(15, "Sound", ballots(UNCOUNTED), &fifteen),
     ];
@@ -336,16 +335,28 @@ fn files_with(
     Ok(published_files(alloc, &election)?)
 }
 
-/// Returns the files of the folder, with or without ballots.
-fn files_of(alloc: Global, with_ballots: bool) -> Result<Vec<PublishedFile>, Fail> {
-    let nine = texts_of(alloc, TIED)?;
-    files_with(alloc, with_ballots, TIED, &nine)
-}
-
 /// Returns the files of the folder with ballots, if a lot is shown before the stages up to it are.
 fn early_files(alloc: Global) -> Result<Vec<PublishedFile>, Fail> {
-    let nine = early_texts(alloc)?;
-    files_with(alloc, true, EARLY, &nine)
+    let (seven, nine, twelve) = (
+        texts_of(alloc, BALLOTS)?,
+        early_texts(alloc)?,
+        texts_of(alloc, UNCONTESTED)?,
+    );
+    let fifteen = uncounted_texts(alloc)?;
+    let index = index_of(alloc)?;
+    let ballots = |text| Some(text);
+    let wards = [
+        published(7, "Harbour", ballots(BALLOTS), &seven),
+        published(9, "Hill", ballots(EARLY), &nine),
+        published(12, "Quay", ballots(UNCONTESTED), &twelve),
+        published(15, "Sound", ballots(UNCOUNTED), &fifteen),
+    ];
+    let election = PublishedElection {
+        title: TITLE,
+        index: index.as_str(),
+        wards: &wards,
+    };
+    Ok(published_files(alloc, &election)?)
 }
 
 /// Returns the lines about a folder; `None` if it is confirmed.
