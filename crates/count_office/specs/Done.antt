@@ -31,7 +31,7 @@ IsDone task ends old new = (cut : Cut) × (page : Page) × (HasCleanDisk new →
 abbrev pub pair_here : TimedRecord SecondFile → TimedRecord SecondFile → RecordPair
 pair_here old new = record { there = true; found_old = left_here old; found_new = left_here new; failed_old = has_failed old; failed_new = has_failed new }
 
--- The office was read, and then the task was performed for an office with a second record, which hadn't failed before: the program ends with the given status, and the
+-- The office was read, and then the task was performed for an office with a second record, which hadn't failed before. The program ends with the given status, and the
 -- headline holds for a page and for what became of that record. Or the record can't be used, or isn't one of this office: the office was only read, and the status isn't 0.
 abbrev pub IsDoneRecorded : {S : Type 0} → (Held S → State) → Task → ℕ → Held S → Held S → Type 0
 IsDoneRecorded {S} state_of task ends old new =
