@@ -31,10 +31,10 @@ recorded_beginning s earlier requests answered old new failed is it was text lef
 pub performed_recorded : (pair : RecordPair) (folder : Folder) (s : OfficeState) (task : Task) (cut : Cut) (before then : Outputs)
     (page : Page) (ends : ℕ) (old new : State) → IsShown cut before then page ends
     → ComesToRecorded cut page (λ own answered. pair.failed_old ≡ false → IsRecorded s own answered pair.found_old pair.found_new pair.failed_new)
-    (λ course. PerformsBy pair.there folder s task course old new)
+    (λ course. PerformsBy pair.failed_new folder s task course old new)
     → IsPerformedRecorded pair folder s task cut page ends old new
 performed_recorded pair folder s task cut before then page ends old new shown (requests, answered, comes, records) =
-    let kept = kept_performed pair.there folder s task (record { requests = requests; answered = answered; page = page; cut = cut }) old new comes in
+    let kept = kept_performed pair.failed_new folder s task (record { requests = requests; answered = answered; page = page; cut = cut }) old new comes in
     record {
       requests = requests;
       answered = answered;
@@ -60,7 +60,7 @@ untouched_record there found failed old new same = record {
 -- a task that sends no request records nothing
 none_performed : (there : Bool) (found : Text → Type 0) (failed : Bool) (folder : Folder) (s : OfficeState) (task : Task) (cut : Cut) (page : Page) (ends : ℕ) (old new : State)
     → (it : IsPerformed folder s task cut page ends old new)
-    → PerformsBy there folder s task (record { requests = it.requests; answered = it.answered; page = page; cut = cut }) old new
+    → PerformsBy failed folder s task (record { requests = it.requests; answered = it.answered; page = page; cut = cut }) old new
     → it.answered ≡ 0
     → IsPerformedRecorded (record { there = there; found_old = found; found_new = found; failed_old = failed; failed_new = failed }) folder s task cut page ends old new
 none_performed there found failed folder s task cut page ends old new it comes none =
@@ -98,10 +98,10 @@ migrate_recorded there found failed folder cut page ends old new headline = reco
 }
 
 -- with no second record, the outcome is as for an office alone
-pub headline_alone : (found_old found_new : Text → Type 0) (failed_old failed_new : Bool) (folder : Folder) (task : Task) (cut : Cut) (page : Page) (ends : ℕ) (old new : State)
-    → HeadlineRecorded (record { there = false; found_old = found_old; found_new = found_new; failed_old = failed_old; failed_new = failed_new }) folder task cut page ends old new
+pub headline_alone : (found_old found_new : Text → Type 0) (failed_old : Bool) (folder : Folder) (task : Task) (cut : Cut) (page : Page) (ends : ℕ) (old new : State)
+    → HeadlineRecorded (record { there = false; found_old = found_old; found_new = found_new; failed_old = failed_old; failed_new = false }) folder task cut page ends old new
     → Headline folder task cut page ends old new
-headline_alone found_old found_new failed_old failed_new folder task cut page ends old new headline = record {
+headline_alone found_old found_new failed_old folder task cut page ends old new headline = record {
   in_office = λ db rests s left.
       let it = headline.in_office db rests s left in record { requests = it.requests; answered = it.answered; comes = it.comes; keeps = it.keeps; all = it.all };
   elsewhere = headline.elsewhere;

@@ -28,11 +28,12 @@ pub record RecordPair : Type 1 where
 
 -- The contract of a task, as in `IsPerformed`, for the office and for its record. Suppose that earlier requests led to the office's state, and that the record had not
 -- failed and was complete. Then a stop leaves the office and the record each in the state after the accepted requests in a prefix of the earlier requests followed by
--- the task's. Both prefixes contain each earlier and each answered request, and at most one more. Unless the record failed, it is complete again.
+-- the task's. Both prefixes contain each earlier and each answered request, and at most one more. Unless the record failed, it is complete again, and no request is left
+-- without a reply because it wasn't recorded.
 pub record IsPerformedRecorded (pair : RecordPair) (folder : Folder) (s : OfficeState) (task : Task) (cut : Cut) (page : Page) (ends : ℕ) (old new : State) : Type 0 where
   pub requests : List Request
   pub answered : ℕ
-  pub comes : PerformsBy pair.there folder s task (record { requests = requests; answered = answered; page = page; cut = cut }) old new
+  pub comes : PerformsBy pair.failed_new folder s task (record { requests = requests; answered = answered; page = page; cut = cut }) old new
   pub keeps : (earlier : List Request) → s ≡ after empty_office earlier → Keeps earlier requests answered new
   pub all : ends ≡ 0 → answered ≡ length requests
   pub records : (earlier : List Request) → s ≡ after empty_office earlier → pair.failed_old ≡ false → IsRecordOf pair.found_old s

@@ -1,5 +1,5 @@
 -- Proof that `in_office` meets its contract.
-use Rattle.std.proofs.Common.{◌≡◌, ◌∙◌, [], inl, inr, refl, subst, sym, true}
+use Rattle.std.proofs.Common.{[], inl, inr, refl, subst, sym}
 use Rattle.sqlite.specs.State.{HasCleanDisk}
 use Rattle.sqlite.specs.Held.{state}
 use Rattle.store.proofs.KeepLemmas.{reads_connection}
@@ -12,7 +12,6 @@ use Rattle.desk.proofs.CauseLemmas.{since}
 use Rattle.desk.proofs.CourseLemmas.{done_since}
 use Rattle.desk.proofs.KeptLemmas.{read_leaves}
 use Rattle.desk.proofs.RecordLemmas.{none_recorded}
-use Rattle.desk.proofs.RecordedEnds.{done_recorded}
 use Rattle.desk.proofs.RecordedLemmas.{performed_recorded, untouched_record}
 use Rattle.desk.proofs.perform.in_office.Goals as goal
 
@@ -30,7 +29,6 @@ returns-in-Ok g c =
     } in
     let job = c.args.job.now in
     let status = c.follow_recorded-status.result in
-    let fails = λ (has : g.R.Recorder.failed c.follow_recorded-status.new.recorder ≡ true). sym c.follow_recorded-status.ensures.same ∙ c.has_failed.ensures.recorded has in
     record {
       page = told.page;
       cut = told.cut;
@@ -50,11 +48,7 @@ returns-in-Ok g c =
                 performed_recorded pair folder s (InOffice job) told.cut _ _ told.page status first next told.shown (
                   it.0,
                   it.1,
-                  inl (
-                    closed,
-                    done_since recorded first mid closed next folder tells s job _ (done_recorded (g.R.Recorder.failed c.follow_recorded-status.new.recorder) recorded fails mid closed
-                        next folder s job _ it.2),
-                  ),
+                  inl (closed, done_since (g.R.Recorder.failed c.follow_recorded-status.new.recorder) first mid closed next folder tells s job _ it.2),
                   it.3,
                 );
             elsewhere = λ db ours rests none. let held = c.in-Ok.ensures.opened opened db ours rests in absurd (none held.0 held.1);
